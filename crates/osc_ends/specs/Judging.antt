@@ -2,9 +2,7 @@
 use Rattle.std.specs.Prelude.{◌≡◌, ℕ, ◌<◌, ◌≤◌, List, length, Option, Some, [], IfSome}
 use Rattle.osc_model.specs.Limits.{Limits}
 use Rattle.osc_model.specs.Events.{Entry}
-use Rattle.osc_replay.specs.Checking.{IsCheckOf}
 use Rattle.osc_replay.specs.Disagreeing.{IsRecordingOf}
-use Rattle.osc_ends.specs.declared.judgement.CheckedRecording.{CheckedRecording}
 use Rattle.osc_ends.specs.declared.judgement.Whole.{Whole}
 use Rattle.osc_ends.specs.declared.judgement.Whole.TheVariants.{Bytes, TooLong}
 use Rattle.osc_ends.specs.Recordings.{RefusesRecording}
@@ -24,14 +22,12 @@ IsAll TooLong = ⊥
 abbrev pub Empties : Whole → Option (List ℕ) → Option (List ℕ) → Type 0
 Empties whole left after = IsAll whole → IfSome left (λ all. after ≡ Some [])
 
--- the bytes are the recording of a legal history, and this was told of it
-pub record IsChecked (checked : CheckedRecording) (bytes : List ℕ) : Type 0 where
-  pub bytes_are : checked.bytes.items ≡ bytes
+-- the bytes are the recording of a legal history, and this is a replay of it
+pub record IsChecked (replay bytes : List ℕ) : Type 0 where
+  pub replay_is : replay ≡ bytes
   pub caps : Limits
   pub history : List Entry
   pub recording_of : IsRecordingOf bytes caps history
-  pub told : (caps : Limits) (history : List Entry) → IsRecordingOf bytes caps history
-      → IsCheckOf checked.checked caps history
 
 -- the bytes aren't, and the lines on that were gained
 abbrev pub RefusesPast : List ℕ → SinkChange → Type 0

@@ -7,7 +7,6 @@ ghost use Rattle.osc_model.specs.Events.{Entry};
 ghost use Rattle.osc_replay.specs.Answers.{OnMalformed, OnDisagrees};
 ghost use Rattle.osc_replay.specs.Disagreeing.{DisagreesAt, IsRecordingOf};
 ghost use Rattle.osc_replay.specs.Formed.{IsUnformedAt};
-ghost use Rattle.osc_replay.specs.declared.checked.Checked.{Checked};
 ghost use Rattle.osc_replay.specs.declared.fault.ReplayFault.TheVariants as replay_fault;
 ghost use Rattle.osc_script.specs.declared.script.TheConstants.{MAX_SCRIPT};
 ghost use Rattle.osc_script.specs.Scripts.{script_of, AreOf};
@@ -22,7 +21,7 @@ use crate::status::{NO_MEMORY, SOURCE_FAILED};
 use crate::whole::{Input, read_whole};
 use osc_edge::{Sink, Source};
 use osc_record::MAX_RECORDING;
-use osc_replay::{Checked, ReplayFault, check};
+use osc_replay::{Replay, ReplayFault};
 use osc_script::{Line, Mode};
 use std::alloc::Global;
 
@@ -32,13 +31,6 @@ pub enum Whole {
     Bytes(Vec<u8>),
     /// There is one byte more than the limit.
     TooLong,
-}
-
-/// The bytes of a recording, and what a check of them tells.
-#[derive(Drop)]
-pub struct CheckedRecording {
-    pub bytes: Vec<u8>,
-    pub checked: Checked,
 }
 
 /// Reads an input to its end, or to one byte past the limit. The `Err` is the status with which the program ends: 3,
@@ -84,33 +76,32 @@ pub fn judge_script<O: Sink>(
     }
 }
 
-/// What was read, where it is the recording of a legal history, or the status with which the program ends: 1, where it
-/// is refused, of which lines are written, or 3.
-pub fn judge_recording<O: Sink>(
+/// A replay of what was read, where it is the recording of a legal history, or the status with which the program ends:
+/// 1, where it is refused, of which lines are written, or 3.
+pub fn judge_recording<'a, O: Sink>(
     alloc: Global,
-    whole: Whole,
+    whole: &'a Whole,
     out: &mut O,
-) -> Result<CheckedRecording, u8>
-    requires { (bytes : List ℕ) × IsReadOf max_recording whole bytes }
-    ensures checked { (bytes : List ℕ) → IsReadOf max_recording whole bytes
-        → IfOk result (λ checked. IsChecked checked bytes) }
-    ensures whole { IfOk result (λ checked. IsAll whole) }
-    ensures unwritten { IfOk result (λ checked. out.new ≡ out.old) }
+) -> Result<Replay<'a>, u8>
+    requires { (bytes : List ℕ) × IsReadOf max_recording whole.now bytes }
+    ensures checked { (bytes : List ℕ) → IsReadOf max_recording whole.now bytes
+        → IfOk result (λ replay. IsChecked replay bytes) }
+    ensures whole { IfOk result (λ replay. IsAll whole.now) }
+    ensures unwritten { IfOk result (λ replay. out.new ≡ out.old) }
     ensures known { IfErr result (λ status. (status ≡ REFUSED) ⊎ (status ≡ NO_MEMORY)) }
-    ensures refused { (bytes : List ℕ) → IsReadOf max_recording whole bytes → IfErr result
+    ensures refused { (bytes : List ℕ) → IsReadOf max_recording whole.now bytes → IfErr result
         (λ status. status ≡ REFUSED
         → RefusesPast bytes (sink_change O.held O.faults out.old out.new)) }
     ensures complete { (bytes : List ℕ) (caps : Limits) (history : List Entry)
-        → IsReadOf max_recording whole bytes → IsRecordingOf bytes caps history
+        → IsReadOf max_recording whole.now bytes → IsRecordingOf bytes caps history
         → IfErr result (λ status. status ≡ NO_MEMORY) }
 {
     osc_model::laws::a_legal_history_is_recordable();
     let Whole::Bytes(bytes) = whole else {
         return Err(malformed(alloc, MAX_RECORDING, out));
     };
-    let answer = check(alloc, &bytes);
-    match answer {
-        Ok(checked) => Ok(CheckedRecording { bytes, checked }),
+    match Replay::open(alloc, bytes) {
+        Ok(replay) => Ok(replay),
         Err(fault) => Err(refuse_recording(alloc, fault, out)),
     }
 }
@@ -119,8 +110,8 @@ pub fn judge_recording<O: Sink>(
 pub(crate) fn refuse_recording<O: Sink>(alloc: Global, fault: ReplayFault, out: &mut O) -> u8
     ensures known { (result ≡ REFUSED) ⊎ (result ≡ NO_MEMORY) }
     ensures refused { (bytes : List ℕ) → length bytes ≤ max_recording
-        → OnMalformed {X = Checked} (Err fault) (λ at. IsUnformedAt bytes at)
-        → OnDisagrees {X = Checked} (Err fault)
+        → OnMalformed {X = List ℕ} (Err fault) (λ at. IsUnformedAt bytes at)
+        → OnDisagrees {X = List ℕ} (Err fault)
         (λ entry kept computed. DisagreesAt bytes entry kept computed)
         → result ≡ REFUSED → RefusesPast bytes (sink_change O.held O.faults out.old out.new) }
     ensures short { fault ≡ replay_fault.NoMemory → result ≡ NO_MEMORY }

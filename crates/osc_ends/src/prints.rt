@@ -8,13 +8,14 @@ ghost use Rattle.osc_ends.specs.declared.status.TheConstants.{
   SINK_FAILED,
   USAGE,
 };
-ghost use Rattle.std.specs.Prelude.{◌≡◌, ◌≢◌, ◌⊎◌, ◌≤◌, List, length, IfOk};
+ghost use Rattle.std.specs.Prelude.{◌≡◌, ◌≢◌, ◌⊎◌, ◌≤◌, List, ◌++◌, length, IfOk, OnOk};
 ghost use Rattle.osc_model.specs.Limits.{Limits, max_recording};
 ghost use Rattle.osc_model.specs.Events.{Entry};
 ghost use Rattle.osc_model.specs.Recordings.{record_text};
 ghost use Rattle.osc_replay.specs.Disagreeing.{IsRecordingOf};
 ghost use Rattle.osc_replay.specs.Formed.{IsFormed};
 ghost use Rattle.osc_replay.specs.Old.{IsOldRecordingOf};
+ghost use Rattle.osc_replay.specs.Onward.{GoesOnFrom};
 ghost use Rattle.osc_replay.specs.Upgrading.{upgraded_text};
 ghost use Rattle.osc_ends.specs.Printing.{
   refusal_text,
@@ -25,6 +26,7 @@ ghost use Rattle.osc_ends.specs.Printing.{
   bank_short_text,
   callers_full_text,
   usage_text,
+  last_text,
   recorded_text,
 };
 ghost use Rattle.osc_ends.specs.Outcomes as outcomes;
@@ -44,7 +46,7 @@ use osc_atoms::Bytes;
 use osc_edge::Sink;
 use osc_print::Text;
 use osc_record::MAX_RECORDING;
-use osc_replay::{DumpFault, ReplayFault, UpgradeFault, dump, replay, upgrade};
+use osc_replay::{DumpFault, Replay, ReplayFault, UpgradeFault, dump, replay, upgrade};
 use osc_score::ScoreFault;
 use osc_script::ScriptFault;
 use std::alloc::{AllocError, Global};
@@ -80,9 +82,57 @@ fn run_text(alloc: Global, recorded: &Recorded) -> Result<Text, AllocError>
         Err(ReplayFault::NoMemory) => return Err(AllocError),
         Err(_) => unreachable!(),
     };
-    text.word(recorded.faults.bytes())?;
-    outcome_line(&mut text, recorded.outcome)?;
+    end_text(&mut text, recorded)?;
     Ok(text)
+}
+
+/// Writes the text of what was recorded after a past, whose replay goes on with it: the status with which the program
+/// ends. What the past has isn't replayed again.
+pub fn write_resumed_text<'a, O: Sink>(
+    alloc: Global,
+    past: Replay<'a>,
+    recorded: &'a Recorded,
+    out: &mut O,
+) -> u8
+    requires { GoesOnFrom past recorded.now.bytes.items }
+    ensures { (caps : Limits) (history : List Entry)
+        → IsRecordingOf recorded.now.bytes.items caps history →
+        EndsText (outcomes.status_of recorded.now.outcome) result
+        (recorded_text caps history recorded.now.faults recorded.now.outcome)
+        (sink_change O.held O.faults out.old out.new) }
+{
+    match resumed_text(alloc, past, recorded) {
+        Ok(text) => write_text(status_of(recorded.outcome), text.bytes(), out),
+        Err(_) => NO_MEMORY,
+    }
+}
+
+/// As `run_text`, after a past.
+fn resumed_text<'a>(
+    alloc: Global,
+    past: Replay<'a>,
+    recorded: &'a Recorded,
+) -> Result<Text, AllocError>
+    requires { GoesOnFrom past recorded.now.bytes.items }
+    ensures { (caps : Limits) (history : List Entry)
+        → IsRecordingOf recorded.now.bytes.items caps history
+        → IfOk result (λ text. text ≡ recorded_text caps history recorded.now.faults
+        recorded.now.outcome) }
+{
+    let replayed = past.go_on(alloc, &recorded.bytes)?;
+    let mut text = replayed.into_text();
+    end_text(&mut text, recorded)?;
+    Ok(text)
+}
+
+/// Adds the lines of the faults, and where it was stopped the line on that.
+fn end_text(text: &mut Text, recorded: &Recorded) -> Result<(), AllocError>
+    ensures { OnOk result (text.new
+        ≡ text.old ++ (recorded.now.faults ++ last_text recorded.now.outcome)) }
+{
+    text.word(recorded.faults.bytes())?;
+    outcome_line(text, recorded.outcome)?;
+    Ok(())
 }
 
 /// Replays the recording, and writes its printed text, or why it is refused: the status with which the program ends.

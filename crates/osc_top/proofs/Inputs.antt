@@ -5,7 +5,6 @@ use Rattle.osc_script.specs.declared.fault.ScriptFault.{ScriptFault}
 use Rattle.osc_script.specs.declared.line.Line.{Line}
 use Rattle.osc_script.specs.declared.mode.Mode.TheVariants.{Lanes}
 use Rattle.osc_script.specs.Scripts.{script_of}
-use Rattle.osc_ends.specs.declared.judgement.CheckedRecording.{CheckedRecording}
 use Rattle.osc_ends.specs.Judging.{IsChecked}
 use Rattle.osc_ends.specs.Printing.{refusal_text}
 use Rattle.osc_ends.specs.Sinks.{SinkChange, GainsUnless}
@@ -21,6 +20,16 @@ any_inputs (Some bytes) (Some script) P holds = (bytes, script, refl, refl, hold
 pub both_so : (past input : Option (List ℕ)) (P Q : List ℕ → List ℕ → Type 0) → ((bytes script : List ℕ) → P bytes script → Q bytes script)
     → OfInputs past input P → OfInputs past input Q
 both_so past input P Q so (bytes, script, past_is, input_is, holds) = (bytes, script, past_is, input_is, so bytes script holds)
+
+-- the bytes of the first
+pub past_of : (past input : Option (List ℕ)) (P Q : List ℕ → Type 0) → OfInputs past input (λ bytes script. P bytes × Q script)
+    → (bytes : List ℕ) × P bytes
+past_of past input P Q (bytes, script, past_is, input_is, holds) = (bytes, holds.0)
+
+-- one of two was refused, or there was no memory
+pub refused_or_short : (status : ℕ) → (status ≡ 1) ⊎ (status ≡ 3) → (status ≡ 1) ⊎ (status ≡ 3) ⊎ (status ≡ 4)
+refused_or_short status (inl one) = inl one
+refused_or_short status (inr three) = inr (inl three)
 
 -- nothing was judged
 pub unjudged : (bytes script : List ℕ) (out : SinkChange) (status : ℕ) → (status ≡ 3) ⊎ (status ≡ 4) → TakesIn (Err status) bytes script out
@@ -38,9 +47,9 @@ faultless (Ok got) P lines and is = and
 faultless (Err fault) P lines and is = absurd (cc)
 
 -- a script was refused after a past that is one
-pub script_judged : (bytes script : List ℕ) (out : SinkChange) (status : ℕ) (checked : CheckedRecording) → IsChecked checked bytes
+pub script_judged : (bytes script : List ℕ) (out : SinkChange) (status : ℕ) (replay : List ℕ) → IsChecked replay bytes
     → (status ≡ 1 → IsErrAnd (script_of Lanes script) (λ fault. GainsUnless out (refusal_text fault))) → TakesIn (Err status) bytes script out
-script_judged bytes script out status checked past refused = record {
+script_judged bytes script out status replay past refused = record {
   both = tt;
   refused = λ one. inr ((past.caps, past.history, past.recording_of), refused one);
   complete = λ lines lawful is one. faultless (script_of Lanes script) _ lines (refused one) is;

@@ -1,6 +1,7 @@
 -- How a program ends that goes on from a recording, from how its parts end.
 use Rattle.std.proofs.Common.{◌≡◌, ◌≢◌, ◌⊎◌, inl, inr, ⊎_elim, ℕ, ◌+◌, ◌<◌, ◌≤◌, ◌==◌, ◌^◌, Bool, true, false, cond, ◌||◌, List, [], ◌∷◌, ◌++◌, length, map, Option, Some}
-use Rattle.std.proofs.Common.{None, IfSome, IsOkAnd, Result, Ok, Err, refl, sym, ap, subst, ◌∙◌, arith}
+use Rattle.std.proofs.Common.{None, IfSome, IsOkAnd, Result, Ok, Err, refl, sym, ap, subst, ◌∙◌, arith, max}
+use Rattle.std.proofs.Math.Nat.{le-max_left}
 use Rattle.std.specs.Option.{option_or}
 use Rattle.std.proofs.lemmas.List.Sums.{count_by-le-length}
 use Rattle.osc_method.specs.Heard.{Fixed}
@@ -17,6 +18,7 @@ use Rattle.osc_live.specs.Resuming.{roomier}
 use Rattle.osc_live.proofs.Roomier.{few_callers, few_in}
 use Rattle.osc_replay.specs.Checking.{IsCheckOf}
 use Rattle.osc_replay.specs.Disagreeing.{IsRecordingOf}
+use Rattle.osc_replay.specs.Onward.{GoesOnFrom}
 use Rattle.osc_replay.specs.Printed.{printed}
 use Rattle.osc_replay.specs.declared.checked.Checked.{Checked}
 use Rattle.osc_script.specs.declared.fault.ScriptFault.{ScriptFault}
@@ -28,7 +30,6 @@ use Rattle.osc_words.specs.declared.command.ResumeCommand.{ResumeCommand}
 use Rattle.osc_ends.specs.declared.outcome.Outcome.{Outcome}
 use Rattle.osc_ends.specs.Ends.{EndsLine, left_behind}
 use Rattle.osc_ends.specs.Inputs.{OfInput}
-use Rattle.osc_ends.specs.Judging.{IsChecked}
 use Rattle.osc_ends.specs.Outcomes.{status_of, stopped}
 use Rattle.osc_ends.specs.Printing.{bank_short_text, callers_full_text, last_text, recorded_text}
 use Rattle.osc_ends.specs.Sinks.{SinkChange, Fails, IsSteady, Gains, GainsAll, GainsPart, GainsUnless, IsUntouched}
@@ -380,6 +381,18 @@ module _ (plays : Limits → List Entry → List Line → List ℕ → List ℕ 
     go (inr (inr (inr (inr (inl eight))))) = (omega arith, λ seven. omega (arith, seven, eight))
     go (inr (inr (inr (inr (inr nine))))) = (omega arith, λ seven. omega (arith, seven, nine))
 
+  -- the words were a command, and no source failed
+  pub resumed_others : (status : ℕ) → Ends status → (status ≢ 2) × (status ≢ 4)
+  resumed_others status ends = go ends.known where
+    go : IsResumed status ⊎ (status ≡ 1) ⊎ (status ≡ 3) ⊎ (status ≡ 5) ⊎ (status ≡ 8) ⊎ (status ≡ 9) → (status ≢ 2) × (status ≢ 4)
+    go (inl (inl zero_is)) = (λ two. omega (arith, two, zero_is), λ four. omega (arith, four, zero_is))
+    go (inl (inr six)) = (λ two. omega (arith, two, six), λ four. omega (arith, four, six))
+    go (inr (inl one)) = (λ two. omega (arith, two, one), λ four. omega (arith, four, one))
+    go (inr (inr (inl three))) = (λ two. omega (arith, two, three), λ four. omega (arith, four, three))
+    go (inr (inr (inr (inl five)))) = (λ two. omega (arith, two, five), λ four. omega (arith, four, five))
+    go (inr (inr (inr (inr (inl eight))))) = (λ two. omega (arith, two, eight), λ four. omega (arith, four, eight))
+    go (inr (inr (inr (inr (inr nine))))) = (λ two. omega (arith, two, nine), λ four. omega (arith, four, nine))
+
 module _ {M : Type 0} (keep : M → Fixed) (heard : M → Option (List ℕ)) where
   -- lanes end done or full
   pub resumed_stops : (caps : Limits) (before : List Entry) (bank : List M) (added : List (ℕ × M)) (left : List M) (lines : List Line)
@@ -436,6 +449,28 @@ module _ {M : Type 0} (keep : M → Fixed) (heard : M → Option (List ℕ)) whe
     staged_recorded unresumed =
         written_played outcome status recording (recorded_text (roomier caps room) staged.history said outcome) rec out staged_stops both unresumed
 
+  -- what was recorded goes on from the past
+  pub resumed_onward : (room : ℕ) (bank : List M) (added : List (ℕ × M)) (left : List M) (lines : List Line) (caps : Limits) (before : List Entry)
+      (bytes recording text : List ℕ) (outcome : Outcome) → IsRecordingOf bytes caps before
+      → PlaysResumed keep heard (roomier caps room) before bank added left lines recording text outcome → GoesOnFrom bytes recording
+  resumed_onward room bank added left lines caps before bytes recording text outcome recording_of plays =
+      let limits = roomier caps room in
+      let stage = plays.performs.stage in
+      let whole : history_in (texts plays.performs.history) ≡ before ++ history_in (texts stage.since) =
+      history_since plays.past before plays.performs.history stage.since plays.past_is stage.goes_on in
+      record {
+        caps = caps;
+        room = max caps.recording room;
+        before = before;
+        since = history_in (texts stage.since);
+        enough = le-max_left caps.recording room;
+        first = recording_of;
+        second = record {
+          legal = subst (Legal limits) whole stage.legal;
+          text = plays.performs.closed.recorded ∙ ap (record_text limits) whole;
+        };
+      }
+
   -- what was written is one history, which begins with the past
   pub resumed_history : (room : ℕ) (bank : List M) (added : List (ℕ × M)) (left : List M) (status : ℕ) (bytes script : List ℕ) (have : ℕ) (rec out : SinkChange)
       → EndsResumed (λ caps before lines. PlaysResumed keep heard (roomier caps room) before bank added left lines) status bytes script have rec out
@@ -483,13 +518,14 @@ was_read most status (Some all) now read = λ _ _. read (λ three. omega (arith,
 
 -- what was taken in is a recording
 pub of_taken : (past input : Option (List ℕ)) (taken : Taken) (out : SinkChange) → OfInputs past input (λ bytes script. TakesIn (Ok taken) bytes script out)
-    → IsChecked taken.past taken.past.bytes.items
-of_taken past input taken out (bytes, script, is, are, takes) = subst (IsChecked taken.past) (sym takes.both.0.bytes_are) takes.both.0
+    → IsPast taken.past
+of_taken past input taken out (bytes, script, is, are, takes) =
+    subst IsPast (sym takes.both.0.replay_is) (takes.both.0.caps, takes.both.0.history, takes.both.0.recording_of)
 
 -- how the program ends with what was taken in
 pub taken_ends : (past input : Option (List ℕ)) (taken : Taken) (out : SinkChange)
     (plays : Limits → List Entry → List Line → List ℕ → List ℕ → Outcome → Type 0) (status have : ℕ) (rec written : SinkChange)
-    → ((script : List ℕ) → script_of Lanes script ≡ Ok taken.lines.items → EndsResumed plays status taken.past.bytes.items script have rec written)
+    → ((script : List ℕ) → script_of Lanes script ≡ Ok taken.lines.items → EndsResumed plays status taken.past script have rec written)
     → OfInputs past input (λ bytes script. TakesIn (Ok taken) bytes script out)
     → OfInputs past input (λ bytes script. EndsResumed plays status bytes script have rec written)
 taken_ends past input taken out plays status have rec written ends (bytes, script, is, are, takes) = (
@@ -497,5 +533,5 @@ taken_ends past input taken out plays status have rec written ends (bytes, scrip
   script,
   is,
   are,
-  subst (λ (b : List ℕ). EndsResumed plays status b script have rec written) takes.both.0.bytes_are (ends script takes.both.1),
+  subst (λ (b : List ℕ). EndsResumed plays status b script have rec written) takes.both.0.replay_is (ends script takes.both.1),
 )

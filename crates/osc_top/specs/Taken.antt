@@ -30,7 +30,7 @@ RefusesPastOrScript out bytes script =
     ⊎ (IsPast bytes
     × IsErrAnd (script_of Lanes script) (λ fault. GainsUnless out (refusal_text fault)))
 
--- Inside the crate: what was told of the past, and the script's lines.
+-- Inside the crate: a replay of the past, and the script's lines.
 abbrev pub IsTaken : Taken → List ℕ → List ℕ → Type 0
 IsTaken taken bytes script =
     IsChecked taken.past bytes × (script_of Lanes script ≡ Ok taken.lines.items)

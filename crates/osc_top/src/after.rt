@@ -20,18 +20,19 @@ ghost use Rattle.osc_model.specs.Limits.{Limits, header_size, max_recording};
 ghost use Rattle.osc_script.specs.declared.mode.Mode.TheVariants.{Lanes};
 ghost use Rattle.osc_script.specs.Scripts.{AreOf, script_of};
 ghost use Rattle.osc_live.specs.Resuming.{roomier};
-ghost use Rattle.osc_ends.specs.Judging.{IsChecked};
 ghost use Rattle.osc_ends.specs.Sinks.{sink_change, Fails};
 ghost use Rattle.osc_top.specs.After.{CanGoOn, HandsBackAll, Reaches, boxes_told, callers_told};
 ghost use Rattle.osc_top.specs.EndsResumed.{EndsResumed, IsUnresumed};
 ghost use Rattle.osc_top.specs.Resumed.{PlaysResumed};
 ghost use Rattle.osc_top.specs.Staged.{IsStaged};
+ghost use Rattle.osc_top.specs.Taken.{IsPast};
 
 use crate::bank::deal;
 use crate::counts::lane_count;
 use crate::intake::Taken;
 use crate::lanes::settle;
-use crate::live::{end, unplayed};
+use crate::live::unplayed;
+use crate::outputs::end_resumed;
 use crate::played::Played;
 use osc_edge::Sink;
 use osc_ends::status::NO_MEMORY;
@@ -51,19 +52,19 @@ pub(crate) fn play_after<O: Sink, R: Sink, W: Threads + Wait + Sync, G: Gate + S
     rt: &W,
     alloc: Global,
     room: u32,
-    taken: Taken,
+    taken: Taken<'_>,
     out: &mut O,
     rec: &mut R,
     bank: Vec<Box<dyn Method + Send>>,
     gate: &G,
 ) -> Ended
     requires room { (header_size ≤ room) × (room ≤ max_recording) }
-    requires past { IsChecked taken.past taken.past.bytes.items }
+    requires past { IsPast taken.past }
     requires lanes { AreOf Lanes taken.lines.items }
-    ensures ends { (script : List ℕ) → script_of Lanes script ≡ Ok taken.lines.items
+    ensures ends { (script : List ℕ) → script_of Lanes script ≡ Ok taken.entry.lines.items
         → EndsResumed (λ caps before lines. PlaysResumed (λ box. keep box) (λ box. heard box)
         (roomier caps room) before bank.items result.heard.items result.left.items lines)
-        result.status taken.past.bytes.items script (length bank.items)
+        result.status taken.entry.past script (length bank.items)
         (sink_change R.held R.faults rec.old rec.new)
         (sink_change O.held O.faults out.old out.new) }
     ensures back { HandsBackAll result.status bank.items result.heard.items result.left.items }
@@ -74,11 +75,12 @@ pub(crate) fn play_after<O: Sink, R: Sink, W: Threads + Wait + Sync, G: Gate + S
     osc_model::laws::a_server_stays_sound();
     osc_model::laws::callers_are_counted();
     let Taken { past, lines } = taken;
-    if let Some(status) = refuse_short(alloc, past.checked, &lines, bank.len(), out) {
+    let checked = past.checked();
+    if let Some(status) = refuse_short(alloc, checked, &lines, bank.len(), out) {
         return unplayed(alloc, status, bank);
     }
-    match stage_after(rt, alloc, &past.bytes, room, lines, bank, gate) {
-        Ok(played) => end(alloc, played, out, rec),
+    match stage_after(rt, alloc, past.recording(), room, lines, bank, gate) {
+        Ok(played) => end_resumed(alloc, past, played, out, rec),
         Err(_) => unplayed(alloc, NO_MEMORY, Vec::new(alloc)),
     }
 }

@@ -1,6 +1,5 @@
 // Takes in a past, and the script that is to be played after it.
 ghost use Rattle.osc_ends.specs.declared.status.TheConstants.{
-  DONE,
   NO_MEMORY,
   REFUSED,
   SOURCE_FAILED,
@@ -11,7 +10,6 @@ ghost use Rattle.std.specs.Prelude.{
   ◌⊎◌,
   ℕ,
   List,
-  [],
   Some,
   IfSome,
   IfOk,
@@ -29,35 +27,33 @@ ghost use Rattle.osc_ends.specs.Sinks.{sink_change};
 ghost use Rattle.osc_top.specs.Taken.{OfInputs, TakesIn};
 
 use osc_edge::{Sink, Source};
-use osc_ends::{CheckedRecording, Whole, judge_recording, judge_script, read_input};
+use osc_ends::{Whole, judge_recording, judge_script, read_input};
 use osc_record::MAX_RECORDING;
+use osc_replay::Replay;
 use osc_script::{Line, MAX_SCRIPT, Mode};
 use std::alloc::Global;
 
 /// What is gone on from, and what is to be played on it.
 #[derive(Drop)]
-pub(crate) struct Taken {
-    pub(crate) past: CheckedRecording,
+pub(crate) struct Taken<'a> {
+    pub(crate) past: Replay<'a>,
     pub(crate) lines: Vec<Line>,
 }
 
-/// Reads a past and then a script, each to its end, and then judges them in the same order. The `Err` is the status
-/// with which the program ends: 1, where one of them is refused, of which lines are written, 3 or 4. The script isn't
-/// read where the past's source failed.
-pub(crate) fn take_in<P: Source, S: Source, O: Sink>(
+/// Reads a past and then a script, each to its end. The `Err` is the status with which the program ends: 3 or 4. The
+/// script isn't read where the past's source failed.
+pub(crate) fn read_both<P: Source, S: Source>(
     alloc: Global,
     past: &mut P,
     input: &mut S,
-    out: &mut O,
-) -> Result<Taken, u8>
-    ensures taken { OfInputs (P.left past.old) (S.left input.old) (λ bytes script.
-        TakesIn result bytes script (sink_change O.held O.faults out.old out.new)) }
-    ensures known { IfErr result
-        (λ status. (status ≡ REFUSED) ⊎ (status ≡ NO_MEMORY) ⊎ (status ≡ SOURCE_FAILED)) }
-    ensures fitting { IfOk result (λ taken. AreOf Lanes taken.lines.items) }
-    ensures ended { IfOk result (λ taken.
-        IfSome (P.left past.old) (λ all. P.left past.new ≡ Some [])
-        × IfSome (S.left input.old) (λ all. S.left input.new ≡ Some [])) }
+) -> Result<(Whole, Whole), u8>
+    ensures read { IfOk result (λ both. OfInputs (P.left past.old) (S.left input.old)
+        (λ bytes script. IsReadOf max_recording both.0 bytes × IsReadOf MAX_SCRIPT both.1 script)) }
+    ensures past_whole { IfOk result
+        (λ both. Empties both.0 (P.left past.old) (P.left past.new)) }
+    ensures script_whole { IfOk result
+        (λ both. Empties both.1 (S.left input.old) (S.left input.new)) }
+    ensures known { IfErr result (λ status. (status ≡ NO_MEMORY) ⊎ (status ≡ SOURCE_FAILED)) }
     ensures source { read_status result ≡ SOURCE_FAILED
         → (Rose (P.faults past.old) (P.faults past.new) × (input.new ≡ input.old))
         ⊎ ((P.faults past.new ≡ P.faults past.old)
@@ -70,51 +66,27 @@ pub(crate) fn take_in<P: Source, S: Source, O: Sink>(
     ensures input_read { IfSome (S.left input.old)
         (λ all. read_status result ≢ NO_MEMORY → read_status result ≢ SOURCE_FAILED
         → S.left input.new ≡ Some (left_behind MAX_SCRIPT all)) }
-    ensures unwritten { (read_status result ≡ DONE) ⊎ (read_status result ≡ SOURCE_FAILED)
-        → out.new ≡ out.old }
-{
-    let (past, script) = read_both(alloc, past, input)?;
-    judge_both(alloc, past, script, out)
-}
-
-/// Reads a past and then a script.
-fn read_both<P: Source, S: Source>(
-    alloc: Global,
-    past: &mut P,
-    input: &mut S,
-) -> Result<(Whole, Whole), u8>
-    ensures read { IfOk result (λ both. OfInputs (P.left past.old) (S.left input.old)
-        (λ bytes script. IsReadOf max_recording both.0 bytes × IsReadOf MAX_SCRIPT both.1 script)) }
-    ensures past_whole { IfOk result
-        (λ both. Empties both.0 (P.left past.old) (P.left past.new)) }
-    ensures script_whole { IfOk result
-        (λ both. Empties both.1 (S.left input.old) (S.left input.new)) }
-    ensures known { IfErr result (λ status. (status ≡ NO_MEMORY) ⊎ (status ≡ SOURCE_FAILED)) }
-    ensures source { IfErr result (λ status. status ≡ SOURCE_FAILED
-        → (Rose (P.faults past.old) (P.faults past.new) × (input.new ≡ input.old))
-        ⊎ ((P.faults past.new ≡ P.faults past.old)
-        × Rose (S.faults input.old) (S.faults input.new))) }
-    ensures sound { IfOk result (λ both.
-        (P.faults past.new ≡ P.faults past.old) × (S.faults input.new ≡ S.faults input.old)) }
-    ensures past_read { IfSome (P.left past.old)
-        (λ all. IfOk result (λ both. P.left past.new ≡ Some (left_behind max_recording all))) }
-    ensures script_read { IfSome (S.left input.old)
-        (λ all. IfOk result (λ both. S.left input.new ≡ Some (left_behind MAX_SCRIPT all))) }
 {
     let past = read_input(alloc, MAX_RECORDING as usize, past)?;
     let script = read_input(alloc, MAX_SCRIPT, input)?;
     Ok((past, script))
 }
 
-/// Judges a past, and then a script.
-fn judge_both<O: Sink>(alloc: Global, past: Whole, script: Whole, out: &mut O) -> Result<Taken, u8>
-    requires { (bytes : List ℕ) × IsReadOf max_recording past bytes }
-    ensures taken { (bytes : List ℕ) (text : List ℕ) → IsReadOf max_recording past bytes
+/// Judges a past, and then a script. The `Err` is the status with which the program ends: 1, where one of them is
+/// refused, of which lines are written, or 3.
+pub(crate) fn judge_both<'a, O: Sink>(
+    alloc: Global,
+    past: &'a Whole,
+    script: Whole,
+    out: &mut O,
+) -> Result<Taken<'a>, u8>
+    requires { (bytes : List ℕ) × IsReadOf max_recording past.now bytes }
+    ensures taken { (bytes : List ℕ) (text : List ℕ) → IsReadOf max_recording past.now bytes
         → IsReadOf MAX_SCRIPT script text
         → TakesIn result bytes text (sink_change O.held O.faults out.old out.new) }
     ensures known { IfErr result (λ status. (status ≡ REFUSED) ⊎ (status ≡ NO_MEMORY)) }
     ensures fitting { IfOk result (λ taken. AreOf Lanes taken.lines.items) }
-    ensures whole { IfOk result (λ taken. IsAll past × IsAll script) }
+    ensures whole { IfOk result (λ taken. IsAll past.now × IsAll script) }
     ensures unwritten { IfOk result (λ taken. out.new ≡ out.old) }
 {
     let past = judge_recording(alloc, past, out)?;

@@ -324,7 +324,7 @@ fn play_lines<
 }
 
 /// Writes what was played, of which nothing was written yet.
-pub(crate) fn end<O: Sink, R: Sink>(
+fn end<O: Sink, R: Sink>(
     alloc: Global,
     played: Played<Box<dyn Method + Send>>,
     out: &mut O,

@@ -39,7 +39,7 @@ ghost use Rattle.osc_top.specs.Resumed.{PlaysResumed, RecordsOneHistory};
 ghost use Rattle.osc_top.specs.Taken.{OfInputs};
 
 use crate::after::play_after;
-use crate::intake::take_in;
+use crate::intake::{judge_both, read_both};
 use crate::live::unplayed;
 use osc_edge::{Sink, Source};
 use osc_ends::status::NO_MEMORY;
@@ -146,7 +146,11 @@ pub fn resume_top<P: Source, S: Source, O: Sink, R: Sink, W: Threads + Wait + Sy
         Ok(None) => return unplayed(alloc, usage(out), bank),
         Err(_) => return unplayed(alloc, NO_MEMORY, bank),
     };
-    match take_in(alloc, past, input, out) {
+    let (past, script) = match read_both(alloc, past, input) {
+        Ok(both) => both,
+        Err(status) => return unplayed(alloc, status, bank),
+    };
+    match judge_both(alloc, &past, script, out) {
         Ok(taken) => play_after(rt, alloc, command.room, taken, out, rec, bank, gate),
         Err(status) => unplayed(alloc, status, bank),
     }
