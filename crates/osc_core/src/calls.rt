@@ -14,6 +14,7 @@ ghost use Rattle.osc_model.specs.Calls.{call_by};
 ghost use Rattle.osc_core.specs.Ids.{is_ascending};
 ghost use Rattle.osc_core.specs.Telling.{told};
 ghost use Rattle.osc_core.specs.Recorded.{owed_by, with_hits, RecordsCalls, TellsRoom};
+ghost use Rattle.osc_tree.specs.Registry.{Registry};
 
 use crate::boxes::invoke_one;
 use crate::messages::Messages;
@@ -29,52 +30,63 @@ use osc_tree::{Hits, Tree};
 /// their ids.
 pub(crate) const MAX_KEPT: usize = 16_384;
 
+/// From how many bytes of messages on the patterns of a unit are compared. In a smaller unit it takes
+/// less to find the methods of each message.
+const MIN_COMPARED: usize = 1024;
+
+/// A unit that is due, and the caller that releases it.
+#[derive(Drop)]
+pub(crate) struct DueUnit<'a> {
+    pub(crate) caller: u32,
+    pub(crate) unit: u64,
+    pub(crate) messages: Messages<'a>,
+}
+
 /// Records the release of a unit, and makes the calls of its messages in order. Where the recording
 /// has no room for the entry, it tells how much the entry needs, and all stays.
 pub(crate) fn release_unit<M: Called>(
     tree: &Tree,
     hits: &mut Hits,
     kept: &mut Vec<u32>,
-    caller: u32,
-    unit: u64,
-    messages: Messages<'_>,
+    due: DueUnit<'_>,
     recorder: &mut Recorder,
     boxes: &mut Vec<(u32, M)>,
 ) -> Result<u32, Room>
     requires limit { tree.now.method_limit ≤ hits.old.limit }
-    requires few { length messages < 2 ^ 32 }
+    requires few { length due.messages < 2 ^ 32 }
     requires few_methods { tree.now.method_limit ≤ max_methods }
-    requires caller { caller < 2 ^ 31 }
-    requires unit { unit < 2 ^ 63 }
+    requires caller { due.caller < 2 ^ 31 }
+    requires unit { due.unit < 2 ^ 63 }
     requires whole { recorder.old.begun ≡ None }
     requires small { recorder.old.caps.recording < 2 ^ 32 }
     requires ascending { IsTrue (is_ascending (map (λ one. one.0) boxes.old.items)) }
-    ensures recorder { RecordsCalls result caller unit
-        (calls_from tree.now.methods 0 messages.entry)
+    ensures recorder { RecordsCalls result due.entry.caller due.entry.unit
+        (calls_from tree.now.methods 0 due.entry.messages)
         recorder.old recorder.new }
     ensures boxes { OnOk result (told M.keep M.heard boxes.new.items
-        ≡ all_hear (invocations_of unit (calls_from tree.now.methods 0 messages.entry))
+        ≡ all_hear (invocations_of due.entry.unit
+        (calls_from tree.now.methods 0 due.entry.messages))
         (told M.keep M.heard boxes.old.items)) }
     ensures silent { OnErr result (boxes.new.items ≡ boxes.old.items) }
     ensures ids { map (λ one. one.0) boxes.new.items ≡ map (λ one. one.0) boxes.old.items }
     ensures capacity { vec_capacity boxes.old ≤ vec_capacity boxes.new }
     ensures limit { hits.new.limit ≡ hits.old.limit }
 {
-    let Some(message) = messages.only() else {
+    let Some(message) = due.messages.only() else {
         // The methods of several messages are found to be counted, and kept to be called as far as
         // there is room.
-        let count = count_calls(tree, hits, kept, messages.again());
-        let calls = start_release(recorder, caller, unit, count)?;
-        invoke_unit(tree, hits, kept, unit, messages, recorder, boxes);
+        let count = count_calls(tree, hits, kept, due.messages.again());
+        let calls = start_release(recorder, due.caller, due.unit, count)?;
+        invoke_unit(tree, hits, kept, due, recorder, boxes);
         return Ok(calls);
     };
     let call = Call {
-        unit,
+        unit: due.unit,
         index: 0,
         message,
     };
     let count = count_hits(tree, hits, &call.message);
-    let calls = start_release(recorder, caller, unit, count as u64)?;
+    let calls = start_release(recorder, due.caller, due.unit, count as u64)?;
     invoke_ids(&hits.ids()[..count], &call, recorder, boxes);
     Ok(calls)
 }
@@ -116,14 +128,24 @@ fn count_calls(tree: &Tree, hits: &mut Hits, kept: &mut Vec<u32>, messages: Mess
     kept.clear();
     let mut count = 0;
     let mut is_whole = true;
+    let is_compared = messages.size() >= MIN_COMPARED;
     let mut last: &[u8] = &[];
     for message in messages {
         let (found, pattern) = count_next(tree, hits, last, &message);
-        last = pattern;
+        last = compared(is_compared, pattern);
         is_whole = keep(is_whole, &hits.ids()[..found], kept);
         count += found as u64;
     }
     count
+}
+
+/// The pattern that the next one is compared with: this one, or none.
+#[inline(always)]
+fn compared(is_compared: bool, pattern: &[u8]) -> &[u8]
+    ensures { (tree : Registry) (ids : List ℕ) → StandFor tree pattern.now ids
+        → StandFor tree result.now ids }
+{
+    if is_compared { pattern } else { &[] }
 }
 
 /// Keeps what a message calls, if all before it is kept and there is room.
@@ -174,8 +196,8 @@ fn count_hits(tree: &Tree, hits: &mut Hits, message: &Message<'_>) -> usize
     hits.ids().len()
 }
 
-/// How many calls the next message of a unit makes, and the pattern by which its methods were found. Where that
-/// is `last`, they were found for a message before.
+/// How many calls the next message of a unit makes, and the pattern that the methods in `hits` are of, which was `last`.
+/// A message with an unknown tag makes none, and leaves both as they are.
 #[inline(always)]
 fn count_next<'a>(
     tree: &Tree,
@@ -216,7 +238,7 @@ fn find_next(tree: &Tree, hits: &mut Hits, last: &[u8], pattern: &Pattern<'_>)
     tree.find(pattern, hits);
 }
 
-/// What is kept of the messages that are left, and the pattern by which methods were found last.
+/// What is kept of the messages that are left, and the pattern that the methods in `hits` are of.
 #[derive(Clone, Copy)]
 struct Left<'a> {
     kept: &'a [u32],
@@ -228,25 +250,26 @@ fn invoke_unit<M: Called>(
     tree: &Tree,
     hits: &mut Hits,
     kept: &[u32],
-    unit: u64,
-    messages: Messages<'_>,
+    due: DueUnit<'_>,
     recorder: &mut Recorder,
     boxes: &mut Vec<(u32, M)>,
 )
     requires limit { tree.now.method_limit ≤ hits.old.limit }
-    requires few { length messages < 2 ^ 32 }
-    requires found { AreFound tree.now.methods messages kept.now }
-    requires owed { owed_by recorder.old ≡ length (calls_from tree.now.methods 0 messages) }
+    requires few { length due.messages < 2 ^ 32 }
+    requires found { AreFound tree.now.methods due.messages kept.now }
+    requires owed { owed_by recorder.old ≡ length (calls_from tree.now.methods 0 due.messages) }
     requires ascending { IsTrue (is_ascending (map (λ one. one.0) boxes.old.items)) }
     ensures recorder { recorder.new
-        ≡ with_hits recorder.old (hits_of (calls_from tree.now.methods 0 messages.entry)) }
+        ≡ with_hits recorder.old (hits_of (calls_from tree.now.methods 0 due.entry.messages)) }
     ensures boxes { told M.keep M.heard boxes.new.items
-        ≡ all_hear (invocations_of unit (calls_from tree.now.methods 0 messages.entry))
+        ≡ all_hear (invocations_of due.entry.unit
+        (calls_from tree.now.methods 0 due.entry.messages))
         (told M.keep M.heard boxes.old.items) }
     ensures ids { map (λ one. one.0) boxes.new.items ≡ map (λ one. one.0) boxes.old.items }
     ensures capacity { vec_capacity boxes.old ≤ vec_capacity boxes.new }
     ensures limit { hits.new.limit ≡ hits.old.limit }
 {
+    let DueUnit { unit, messages, .. } = due;
     let mut index = 0;
     let mut left = Left { kept, last: &[] };
     for message in messages {
@@ -304,7 +327,7 @@ fn invoke_message<'a, M: Called>(
     }
 }
 
-/// Makes the calls of one message, whose methods are found, and hands back the pattern by which they were.
+/// Finds the methods of one message, makes its calls, and hands back the pattern that the methods in `hits` are of.
 fn find_and_invoke<'a, M: Called>(
     tree: &Tree,
     hits: &mut Hits,

@@ -41,6 +41,11 @@ impl<'a> Messages<'a> {
         Messages { bytes: self.bytes }
     }
 
+    /// How many bytes they take, each with its length.
+    pub(crate) fn size(&self) -> usize {
+        self.bytes.len()
+    }
+
     /// The only message, where there is one.
     pub(crate) fn only(&self) -> Option<Message<'a>>
         ensures { IfSome result (λ message. self.now ≡ message ∷ []) }

@@ -24,7 +24,7 @@ ghost use Rattle.osc_core.specs.Playing.{tables};
 
 use crate::answers::{Enrolled, Releasing, Removing, Submitted, Ticking};
 use crate::backlog::Backlog;
-use crate::calls::{MAX_KEPT, release_unit};
+use crate::calls::{DueUnit, MAX_KEPT, release_unit};
 use crate::messages::Messages;
 use osc_atoms::Room;
 use osc_method::Method;
@@ -274,16 +274,13 @@ impl Server {
         }
         self.waiting.read();
         let read = Messages::new(self.waiting.bytes.as_slice());
-        match release_unit(
-            &self.tree,
-            &mut self.hits,
-            &mut self.kept,
+        let first = DueUnit {
             caller,
             unit,
-            read,
-            recorder,
-            boxes,
-        ) {
+            messages: read,
+        };
+        let (tree, hits, kept) = (&self.tree, &mut self.hits, &mut self.kept);
+        match release_unit(tree, hits, kept, first, recorder, boxes) {
             Ok(calls) => {
                 self.waiting.take(self.clock, messages);
                 Releasing::Released { unit, calls }

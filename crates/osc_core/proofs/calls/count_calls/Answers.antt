@@ -43,6 +43,6 @@ loop-message-preserved c =
       small = omega (arith, ap length c.in-Some.ensures.steps, c.count_next-found.ensures.few, c.requires.few_methods, c.loop-message.invariant.small);
       found = on.0;
       further = on.1;
-      stand = c.count_next-found.ensures.stand;
+      stand = c.compared-last.ensures c.args.tree.now _ c.count_next-found.ensures.stand;
       limit = c.count_next-found.ensures.limit ∙ c.loop-message.invariant.limit;
     }

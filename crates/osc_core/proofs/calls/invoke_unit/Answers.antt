@@ -31,7 +31,7 @@ loop-message-preserved g c =
           (first_and_rest methods c.in-Some.message left rest first c.loop-message.left.kept.now c.loop-message.invariant.found).1;
       stand = c.invoke_message-left.ensures.stand;
       owed = unit_owed methods index c.in-Some.message left rest first old c.invoke_message-left.new.recorder put c.loop-message.invariant.owed;
-      boxes = unit_heard methods index c.in-Some.message left rest first c.args.unit _ _ c.invoke_message-left.ensures.boxes ∙ c.loop-message.invariant.boxes;
+      boxes = unit_heard methods index c.in-Some.message left rest first c.args.due.unit _ _ c.invoke_message-left.ensures.boxes ∙ c.loop-message.invariant.boxes;
       ids = c.invoke_message-left.ensures.ids ∙ c.loop-message.invariant.ids;
       capacity = omega (arith, c.invoke_message-left.ensures.capacity, c.loop-message.invariant.capacity);
       numbers = omega (arith, ap length first, c.loop-message.invariant.numbers);
@@ -45,5 +45,5 @@ returns-clause-recorder g c =
 
 pub returns-clause-boxes : goal.returns-clause-boxes
 returns-clause-boxes g c =
-    none_heard c.args.tree.now.methods c.loop-message.index c.args.unit c.loop-message.message-iterator _ c.in-None.ensures.steps.0
+    none_heard c.args.tree.now.methods c.loop-message.index c.args.due.unit c.loop-message.message-iterator _ c.in-None.ensures.steps.0
     ∙ c.loop-message.invariant.boxes
