@@ -14,7 +14,8 @@ upright x top end = point 77 x top ++ step 86 end
 -- an open mark
 abbrev pub open_mark : ℕ → ℕ → ℕ → List ℕ
 open_mark x top end =
-    point 77 (x - 20) top ++ step 72 (x + 20) ++ step 86 end ++ step 72 (x - 20) ++ step 86 (top - 5)
+    point 77 (x - 20) top ++ step 72 (x + 20) ++ step 86 end ++ step 72 (x - 20)
+    ++ step 86 (top - 5)
 
 -- a cross
 unfoldable pub cross : ℕ → ℕ → List ℕ

@@ -33,7 +33,8 @@ step_in frame = step_of (length_of frame)
 -- where the line after so many others stands on the wall
 abbrev pub here_of : Frame → ℕ → ℕ
 here_of frame k =
-    (frame.first + frame.ahead + step_in frame - 1) / step_in frame * step_in frame + k * step_in frame
+    (frame.first + frame.ahead + step_in frame - 1) / step_in frame * step_in frame
+    + k * step_in frame
 
 -- that line, if it isn't after the end
 abbrev pub tick_of : Frame → ℕ → Option Tick

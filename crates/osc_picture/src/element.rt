@@ -61,7 +61,8 @@ pub(crate) fn add_text(
     y: u64,
     words: &[u8],
 ) -> Result<(), AllocError>
-    ensures { OnOk result (out.new.items ≡ out.old.items ++ spec.words_text kind.now x y words.now) }
+    ensures { OnOk result
+        (out.new.items ≡ out.old.items ++ spec.words_text kind.now x y words.now) }
 {
     add(out, b"<text class=\"")?;
     add(out, kind)?;

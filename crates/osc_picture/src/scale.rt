@@ -43,7 +43,8 @@ pub(crate) fn add_scale(
 }
 
 fn add_lines(out: &mut Vec<u8>, frame: Frame, top: u64, bottom: u64) -> Result<(), AllocError>
-    ensures { OnOk result (out.new.items ≡ out.old.items ++ spec.lines frame top bottom spec.counts) }
+    ensures { OnOk result
+        (out.new.items ≡ out.old.items ++ spec.lines frame top bottom spec.counts) }
 {
     let mut rest: &[u32] = &LINES;
     while let Some((k, others)) = rest.split_first() {
@@ -70,7 +71,8 @@ fn add_line(
 
 fn add_labels(out: &mut Vec<u8>, frame: Frame, top: u64, bottom: u64) -> Result<(), AllocError>
     requires { bottom < 2 ^ 33 }
-    ensures { OnOk result (out.new.items ≡ out.old.items ++ spec.labels frame top bottom spec.counts) }
+    ensures { OnOk result
+        (out.new.items ≡ out.old.items ++ spec.labels frame top bottom spec.counts) }
 {
     let mut rest: &[u32] = &LINES;
     while let Some((k, others)) = rest.split_first() {

@@ -24,7 +24,8 @@ pub(crate) fn add_strips(
     shelves: &[Shelf],
     rows: &[Row],
 ) -> Result<(), AllocError>
-    ensures { OnOk result (out.new.items ≡ out.old.items ++ spec.strips frame shelves.now rows.now) }
+    ensures { OnOk result
+        (out.new.items ≡ out.old.items ++ spec.strips frame shelves.now rows.now) }
 {
     let mut places = shelves;
     let mut rest = rows;

@@ -4,7 +4,7 @@ use Rattle.osc_model.specs.History.{Performance}
 use Rattle.osc_uses.specs.Light.{ServesLight}
 use Rattle.osc_uses.proofs.light.serve_light.Given as goal
 
--- whatever the turns that are left come to, all of them come to
+-- what the turns that are left do is what all of them do
 abbrev pub invariant-loop : goal.invariant-loop
 invariant-loop g l = record {
   space : length l.space ≡ MAX_DATAGRAM;
