@@ -12,6 +12,7 @@ pub struct MeteredSink<'a, S> {
 }
 
 impl<'a, S: Sink> MeteredSink<'a, S> {
+    /// A sink that writes to this one.
     pub fn new(sink: S, changeover: &'a Changeover) -> Self
         ensures held { ⟦<MeteredSink<'a, S> as Sink>⟧.held result ≡ S.held sink }
         ensures faults { ⟦<MeteredSink<'a, S> as Sink>⟧.faults result ≡ S.faults sink }

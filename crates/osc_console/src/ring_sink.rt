@@ -27,6 +27,7 @@ impl Drop for RingSink<'_> {
 }
 
 impl<'a> RingSink<'a> {
+    /// A sink that hands its bytes to the printer by this end of a ring.
     pub fn new(producer: Producer<u8, Global>, printer: &'a Printer) -> RingSink<'a>
         ensures held { ⟦<RingSink<'a> as Sink>⟧.held result ≡ Some (sent producer) }
         ensures faults { ⟦<RingSink<'a> as Sink>⟧.faults result ≡ 0 }

@@ -32,6 +32,7 @@ impl Drop for MemoryDoor {
 }
 
 impl MemoryDoor {
+    /// A door to which these come, the last one first.
     pub fn open(alloc: Global, visitors: Vec<Option<Speech>>) -> MemoryDoor
         ensures { result.visitors ≡ visitors }
     {

@@ -103,6 +103,7 @@ impl Model for Board {
 impl Board {
     ghost use Rattle.std.specs.Prelude.{◌≡◌};
 
+    /// What a page shows: the clock, the counts, a row for each method, and the units that wait.
     pub fn new(clock: u64, counts: Counts, methods: Vec<Row>, waits: Vec<Wait>) -> Board
         ensures { result ≡ record {
           clock = clock;
@@ -119,24 +120,28 @@ impl Board {
         }
     }
 
+    /// The server's clock, an OSC time tag.
     pub fn clock(&self) -> u64
         ensures { result ≡ self.now.clock }
     {
         self.clock
     }
 
+    /// How much of each kind has come.
     pub fn counts(&self) -> Counts
         ensures { result ≡ self.now.counts }
     {
         self.counts
     }
 
+    /// A row for each method.
     pub fn methods(&self) -> &[Row]
         ensures { result.now ≡ self.now.methods }
     {
         &self.methods
     }
 
+    /// The units that wait and are shown.
     pub fn waits(&self) -> &[Wait]
         ensures { result.now ≡ self.now.waits }
     {

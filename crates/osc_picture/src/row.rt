@@ -42,18 +42,21 @@ impl Model for Bound {
 impl Bound {
     ghost use Rattle.std.specs.Prelude.{◌≡◌};
 
+    /// The end at this number, as it is written.
     pub fn new(number: u64, words: Bytes) -> Bound
         ensures { result ≡ (number, words) }
     {
         Bound { number, words }
     }
 
+    /// The number, as a call has it.
     pub fn number(&self) -> u64
         ensures { result ≡ self.now.0 }
     {
         self.number
     }
 
+    /// Its words.
     pub fn words(&self) -> &[u8]
         ensures { result.now ≡ self.now.1 }
     {

@@ -22,18 +22,21 @@ impl Model for Said {
 impl Said {
     ghost use Rattle.std.specs.Prelude.{◌≡◌};
 
+    /// The words that a call carried at this moment.
     pub fn new(at: u64, words: Bytes) -> Said
         ensures { result ≡ (at, words) }
     {
         Said { at, words }
     }
 
+    /// When the call was made.
     pub fn at(&self) -> u64
         ensures { result ≡ self.now.0 }
     {
         self.at
     }
 
+    /// The words.
     pub fn words(&self) -> &[u8]
         ensures { result.now ≡ self.now.1 }
     {

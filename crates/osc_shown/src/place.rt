@@ -20,6 +20,7 @@ impl<'a> Model for Place<'a> {
 impl<'a> Place<'a> {
     ghost use Rattle.std.specs.Prelude.{◌≡◌};
 
+    /// The place of the method at this address.
     pub fn at(address: &'a [u8]) -> Place<'a>
         ensures { result ≡ address.now }
     {

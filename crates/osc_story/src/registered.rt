@@ -33,12 +33,14 @@ impl Registered {
         })
     }
 
+    /// The method's id.
     pub fn id(&self) -> u32
         ensures { result ≡ self.now.id }
     {
         self.id
     }
 
+    /// The method's address.
     pub fn address(&self) -> &[u8]
         ensures { result.now ≡ self.now.address }
     {

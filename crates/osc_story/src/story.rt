@@ -75,6 +75,7 @@ impl Story {
         self.late
     }
 
+    /// The server's clock, an OSC time tag.
     pub fn clock(&self) -> u64
         ensures { result ≡ self.now.clock }
     {

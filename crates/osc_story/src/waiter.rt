@@ -66,6 +66,7 @@ impl Waiting {
         self.due
     }
 
+    /// Its number, counted from 0 over all units.
     pub fn number(&self) -> u64
         ensures { result ≡ unit_of self.now }
     {
@@ -86,6 +87,7 @@ impl Waiting {
         self.tag
     }
 
+    /// Its messages, in order.
     pub fn messages(&self) -> &[KeptMessage]
         ensures { result.now ≡ self.now.2.unit.messages }
     {

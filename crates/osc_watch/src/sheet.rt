@@ -8,6 +8,7 @@ use left_right::Absorb;
 use std::alloc::{AllocError, Global};
 use std::collections::LinkedList;
 
+/// The rows of the methods that stand after the edits that were reached.
 #[derive(Drop)]
 pub struct Sheet {
     pub(crate) alloc: Global,

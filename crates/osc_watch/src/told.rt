@@ -11,6 +11,7 @@ use std::alloc::AllocError;
 
 pub(crate) type SheetWriter = Writer<Sheet, Change, View, Published>;
 
+/// A reader, and how far it was told of the list of edits.
 #[derive(Drop)]
 pub struct Told {
     pub(crate) reader: Reader<Sheet, View, Published>,
