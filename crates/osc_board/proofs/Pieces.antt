@@ -1,5 +1,5 @@
 -- A recording that comes in pieces.
-use Rattle.std.proofs.Common.{◌≡◌, ℕ, ◌+◌, ◌<◌, ◌≤◌, List, [], ◌++◌, length, length-append, take, drop, Option, Some, None, refl, sym, ap, subst, ◌∙◌}
+use Rattle.std.proofs.Common.{◌≡◌, ℕ, ◌+◌, ◌-◌, ◌<◌, ◌≤◌, List, [], ◌++◌, length, length-append, take, drop, Option, Some, None, refl, sym, ap, subst, ◌∙◌}
 use Rattle.std.proofs.Common.{append_assoc, append-nil, arith}
 use Rattle.std.proofs.lemmas.List.{append_cancel_left}
 use Rattle.std.proofs.Math.Seq.{take-append_seam, drop-append_seam, drop-append-add}
@@ -16,8 +16,9 @@ use Rattle.osc_story.specs.Seen.{bytes_of, text_of, HasNoEntry, BeginsUnlike}
 use Rattle.osc_board.specs.Seen.{HasSeen, StopsFor}
 use Rattle.osc_story.specs.Following.{IsTooLong}
 use Rattle.osc_board.specs.Watching.{Watching, HasFollowed, HasComeTo, HasCome, HasGone, Progresses}
-use Rattle.osc_story.specs.Looks.{IsPast, place_of, progress_of}
-use Rattle.osc_board.specs.Looks.{begun, SawAfter, from_place}
+use Rattle.osc_story.specs.Looks.{IsPast}
+use Rattle.osc_story.specs.KeptBytes.{place_of, progress_of}
+use Rattle.osc_board.specs.Looks.{begun, SawAfter}
 use Rattle.osc_board.proofs.Onward.{all_append, agree_append, can_append, text_append}
 
 -- what the laws of recordings say
@@ -25,6 +26,10 @@ pub record Written : Type 0 where
   pub header : (limits : Limits) → length (header_text limits) ≡ header_size
   pub entry : (caller : ℕ) (event : Event) (answer : Answer) → FitsRow (row_of caller event answer) → length (entry_text caller event answer) ≡ entry_size event answer
   pub differ : (limits other : Limits) → AreInRange limits → AreInRange other → header_text limits ≡ header_text other → limits ≡ other
+
+-- the header and the bytes from a place on are kept
+abbrev pub from_place : Watching → ℕ → Watching
+from_place follower place = record follower { bytes = take header_size follower.bytes ++ drop place follower.bytes; passed = follower.passed + (place - header_size) }
 
 -- One more piece.
 

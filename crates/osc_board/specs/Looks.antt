@@ -1,8 +1,6 @@
 -- Inside the crate: what is seen of bytes that begin with a header.
-use Rattle.std.specs.Prelude.{◌≡◌, ℕ, ◌+◌, ◌-◌, ◌≤◌, List, ◌++◌, take, drop, Option, Some}
-use Rattle.std.specs.Prelude.{None}
+use Rattle.std.specs.Prelude.{◌≡◌, ℕ, ◌≤◌, List, Option, Some, None}
 use Rattle.osc_model.specs.declared.late.Late.{Late}
-use Rattle.osc_model.specs.Limits.{header_size}
 use Rattle.osc_record.specs.Reading.{HasNoHeader}
 use Rattle.osc_record.specs.Unread.{Remaining, HasHeader}
 use Rattle.osc_story.specs.declared.reader.Stop.{Stop}
@@ -11,7 +9,6 @@ use Rattle.osc_board.specs.declared.look.Look.{Look}
 use Rattle.osc_board.specs.declared.look.Look.TheVariants as look
 use Rattle.osc_board.specs.Sights.{Sight, opened}
 use Rattle.osc_board.specs.Seen.{HasSeen}
-use Rattle.osc_board.specs.Watching.{Watching}
 
 -- what is seen, also before the first entry
 abbrev pub begun : Option Sight → Late → Sight
@@ -33,11 +30,3 @@ abbrev pub LooksAt : Look → List ℕ → ℕ → Option Sight → Option Sight
 LooksAt look.Malformed bytes came old new = HasNoHeader bytes 0 × (new ≡ old)
 LooksAt look.TooLong bytes came old new = IsPast bytes came × (new ≡ old)
 LooksAt (look.Saw cause) bytes came old new = SawAfter bytes came old cause new
-
--- the header and the bytes from a place on are kept
-abbrev pub from_place : Watching → ℕ → Watching
-from_place watcher place =
-    record watcher {
-      bytes = take header_size watcher.bytes ++ drop place watcher.bytes;
-      passed = watcher.passed + (place - header_size);
-    }

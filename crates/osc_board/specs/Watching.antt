@@ -2,14 +2,11 @@
 use Rattle.std.specs.Prelude.{◌≡◌, ℕ, ◌+◌, ◌≤◌, ◌<◌, List, [], ◌++◌, length, Option, Some, None}
 use Rattle.std.specs.List.{AllByRecursion}
 use Rattle.osc_model.specs.Limits.{Limits, AreInRange, header_size}
-use Rattle.osc_model.specs.Limits.{max_recording}
 use Rattle.osc_model.specs.Events.{Entry}
 use Rattle.osc_model.specs.Recordings.{header_text, record_text}
 use Rattle.osc_record.specs.Reading.{HasNoHeader}
 use Rattle.osc_story.specs.declared.follower.Progress.{Progress}
 use Rattle.osc_story.specs.declared.follower.Progress.TheVariants as progress
-use Rattle.osc_story.specs.declared.follower.TakeFault.{TakeFault}
-use Rattle.osc_story.specs.declared.follower.TakeFault.TheVariants as take
 use Rattle.osc_board.specs.Boards.{past_after}
 use Rattle.osc_board.specs.Pasts.{Past, no_past}
 use Rattle.osc_board.specs.Sights.{Sight, opened, sight_after, AgreesAll}
@@ -65,12 +62,6 @@ HasComeTo came watcher (Some sight) =
 -- these bytes have come, whatever the pieces were
 abbrev pub HasCome : List ℕ → Watching → Type 0
 HasCome came watcher = HasComeTo came watcher watcher.sight
-
--- out of memory; or more bytes would have come than the largest recording has
-abbrev pub IsTakeFault : TakeFault → Watching → List ℕ → Type 0
-IsTakeFault take.NoMemory watcher piece = Unit {0}
-IsTakeFault take.TooLong watcher piece =
-    max_recording < watcher.passed + (length watcher.bytes + length piece)
 
 -- It was followed as far as it goes: the entries end within the limit, and what is left of the rest
 -- after them begins so.

@@ -1,6 +1,6 @@
 -- Entries that are seen one after another.
 use Rattle.std.proofs.Common.{◌≡◌, ℕ, ◌+◌, List, [], ◌∷◌, ◌++◌, length, length-append, None, refl, sym, ap, subst, ◌∙◌, append_assoc, append-nil, arith}
-use Rattle.std.specs.List.{AllByRecursion, flat_map}
+use Rattle.std.specs.List.{AllByRecursion}
 use Rattle.std.proofs.lemmas.Grind.{flat_map-append}
 use Rattle.osc_model.specs.Limits.{Limits}
 use Rattle.osc_model.specs.Events.{Entry}
@@ -8,7 +8,7 @@ use Rattle.osc_record.specs.Reading.{Placed}
 use Rattle.osc_record.specs.Unread.{Remaining, Reads}
 use Rattle.osc_story.specs.declared.reader.Stop.{Stop}
 use Rattle.osc_story.specs.Standings.{Standing, Follows, AgreesAll, disagreement, seen, seen_all}
-use Rattle.osc_story.specs.Seen.{CanBe, bytes_of, text_of, HasSeen, StopsFor, SeesNext}
+use Rattle.osc_story.specs.Seen.{CanBe, bytes_of, text_of, HasSeen, StopsFor}
 
 -- of what was left so many entries were seen, and this is left now
 pub record SeenSo (old : Standing) (left : Remaining) (new : Standing) (now : Remaining) : Type 0 where

@@ -1,23 +1,21 @@
 -- A recording that comes in pieces.
-use Rattle.std.proofs.Common.{◌≡◌, ℕ, ◌+◌, ◌-◌, ◌<◌, ◌≤◌, List, [], ◌∷◌, ◌++◌, length, length-append, take, drop, Option, Some, None, refl, sym, ap, subst, ◌∙◌}
+use Rattle.std.proofs.Common.{◌≡◌, ℕ, ◌+◌, ◌-◌, ◌<◌, ◌≤◌, List, [], ◌++◌, length, length-append, take, drop, Option, Some, None, refl, sym, ap, subst, ◌∙◌}
 use Rattle.std.proofs.Common.{append_assoc, append-nil, arith}
-use Rattle.std.specs.List.{AllByRecursion}
 use Rattle.std.proofs.lemmas.List.{append_cancel_left}
 use Rattle.std.proofs.Math.Seq.{take-append_seam, drop-append_seam, drop-append-add}
-use Rattle.osc_model.specs.declared.late.Late.{Late}
 use Rattle.osc_model.specs.Limits.{Limits, AreInRange, header_size}
 use Rattle.osc_model.specs.Events.{Event, enrol, submit, add, remove, tick, release, Answer, Entry}
 use Rattle.osc_model.specs.Recordings.{FitsRow, row_of, entry_size, entry_text, header_text, record_text}
 use Rattle.osc_record.specs.Reading.{HasNoHeader}
 use Rattle.osc_record.specs.Unread.{Remaining, HasHeader}
-use Rattle.osc_story.specs.declared.disagreement.Disagreement.{Disagreement}
 use Rattle.osc_story.specs.declared.reader.Stop.{Stop}
 use Rattle.osc_story.specs.declared.reader.Stop.TheVariants.{End, NotWhole, Disagrees, NoMemory}
 use Rattle.osc_story.specs.declared.follower.Progress.{Progress}
-use Rattle.osc_story.specs.Standings.{Standing, opened, standing_after, seen_all, AgreesAll}
-use Rattle.osc_story.specs.Seen.{CanBe, bytes_of, text_of, HasSeen, StopsFor, HasNoEntry, BeginsUnlike}
-use Rattle.osc_story.specs.Following.{Following, HasFollowed, HasComeTo, HasCome, HasGone, HasCaughtUp, IsTooLong, Progresses}
-use Rattle.osc_story.specs.Looks.{begun, SawAfter, IsPast, place_of, from_place, progress_of}
+use Rattle.osc_story.specs.Standings.{Standing, opened, seen_all, AgreesAll}
+use Rattle.osc_story.specs.Seen.{bytes_of, text_of, HasSeen, StopsFor, HasNoEntry, BeginsUnlike}
+use Rattle.osc_story.specs.Following.{Following, HasFollowed, HasComeTo, HasCome, HasGone, IsTooLong, Progresses}
+use Rattle.osc_story.specs.Looks.{begun, SawAfter, IsPast}
+use Rattle.osc_story.specs.KeptBytes.{place_of, progress_of}
 use Rattle.osc_story.proofs.Onward.{all_append, agree_append, can_append, text_append}
 
 -- what the laws of recordings say
@@ -25,6 +23,10 @@ pub record Written : Type 0 where
   pub header : (limits : Limits) → length (header_text limits) ≡ header_size
   pub entry : (caller : ℕ) (event : Event) (answer : Answer) → FitsRow (row_of caller event answer) → length (entry_text caller event answer) ≡ entry_size event answer
   pub differ : (limits other : Limits) → AreInRange limits → AreInRange other → header_text limits ≡ header_text other → limits ≡ other
+
+-- the header and the bytes from a place on are kept
+abbrev pub from_place : Following → ℕ → Following
+from_place follower place = record follower { bytes = take header_size follower.bytes ++ drop place follower.bytes; passed = follower.passed + (place - header_size) }
 
 -- One more piece.
 

@@ -1,5 +1,5 @@
 -- The hits in bytes.
-use Rattle.std.proofs.Common.{◌≡◌, ℕ, ◌≤◌, ◌<◌, List, [], ◌∷◌, length, take, drop, Option, Some, None, refl, sym, ap, ◌∙◌, arith, length-drop}
+use Rattle.std.proofs.Common.{◌≡◌, ℕ, ◌≤◌, List, [], ◌∷◌, length, take, drop, Option, Some, None, refl, sym, ap, ◌∙◌, arith, length-drop}
 use Rattle.std.specs.Int.{w32, from_be_bytes}
 use Rattle.osc_model.specs.Recordings.{hits_in}
 use Rattle.osc_story.specs.Hits.{SplitsHit, SplitsWords}

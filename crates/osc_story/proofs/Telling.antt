@@ -1,6 +1,6 @@
 -- What the entries tell: what was called, and that none disagrees.
 use Rattle.osc_atoms.specs.declared.limits.TheConstants.{MAX_PACKET}
-use Rattle.std.proofs.Common.{◌≡◌, ℕ, ◌+◌, ◌-◌, ◌<◌, ◌≤◌, ◌^◌, ◌==◌, ◌&&◌, Bool, true, false, cond, IsTrue, List, [], ◌∷◌, ◌++◌, map, length, Option, Some}
+use Rattle.std.proofs.Common.{◌≡◌, ℕ, ◌+◌, ◌-◌, ◌<◌, ◌^◌, ◌==◌, ◌&&◌, Bool, true, false, cond, List, [], ◌∷◌, ◌++◌, map, length, Option, Some}
 use Rattle.std.proofs.Common.{None, is_some, unwrap_or}
 use Rattle.std.proofs.Common.{slice_index_or, nat_lt, pos, refl, sym, ap, subst, ◌∙◌, arith}
 use Rattle.std.specs.Prelude.{FitsSigned}
@@ -12,7 +12,6 @@ use Rattle.osc_packet.specs.Units.{TimedUnit}
 use Rattle.osc_pattern.specs.Methods.{Method, IsMethodList}
 use Rattle.osc_tree.specs.Registry.{address_by_id}
 use Rattle.osc_queue.specs.Timed.{Item, unit_of}
-use Rattle.osc_model.specs.declared.late.Late.{Late}
 use Rattle.osc_model.specs.State.{Queued, State}
 use Rattle.osc_model.specs.Events.{Event, enrol, submit, add, remove, tick, release, Answer, Hit, Call, Invocation, Entry, record_full, number, callers_full}
 use Rattle.osc_model.specs.Events.{queued}
@@ -20,7 +19,7 @@ use Rattle.osc_model.specs.Events.{units_full, pool_full, added, refused, remove
 use Rattle.osc_model.specs.Recordings.{IsRecordable}
 use Rattle.osc_model.specs.Refusals.{IsRefusal}
 use Rattle.osc_model.specs.Releases.{IsCallIn}
-use Rattle.osc_model.specs.History.{after, invocations, IsLawful, IsSound, LegalFrom}
+use Rattle.osc_model.specs.History.{invocations, IsLawful, IsSound, LegalFrom}
 use Rattle.osc_model.specs.Step.{Stepped, step, decided, kept, late_count, calls_of_unit, hits_of, invocations_of}
 use Rattle.osc_model.proofs.Stepping.{step_so, decided_so}
 use Rattle.osc_model.proofs.Calls.{MatchesExactly, unit_calls}

@@ -1,5 +1,5 @@
 -- The whole entries of bytes are determined, whatever the pieces were in which these came.
-use Rattle.std.proofs.Common.{◌≡◌, ℕ, ◌+◌, ◌≤◌, List, [], ◌∷◌, ◌++◌, length, length-append, Option, Some, None, refl, sym, ap, subst, ◌∙◌, append_assoc}
+use Rattle.std.proofs.Common.{◌≡◌, ℕ, ◌+◌, ◌≤◌, List, [], ◌∷◌, ◌++◌, length, length-append, Some, refl, sym, ap, subst, ◌∙◌, append_assoc}
 use Rattle.std.proofs.Common.{append-nil, arith}
 use Rattle.std.specs.List.{AllByRecursion}
 use Rattle.std.proofs.lemmas.List.{append_cancel_left}
@@ -9,7 +9,7 @@ use Rattle.osc_model.specs.Recordings.{IsRecordable, entry_text, header_text, re
 use Rattle.osc_record.specs.Reading.{entry_in}
 use Rattle.osc_story.specs.Standings.{Standing, opened, standing_after, AgreesAll}
 use Rattle.osc_story.specs.Seen.{CanBe, bytes_of, text_of, HasNoEntry}
-use Rattle.osc_story.specs.Following.{Following, HasFollowed, HasGone, HasCaughtUp}
+use Rattle.osc_story.specs.Following.{Following, HasCaughtUp}
 use Rattle.osc_story.proofs.Pieces.{Written, fronts, none_in_none}
 
 -- an entry is read again, whatever follows it

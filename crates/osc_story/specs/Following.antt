@@ -1,15 +1,12 @@
 -- A recording that comes in pieces: what is kept of it, what stands, and how far it was followed.
-use Rattle.std.specs.Prelude.{◌≡◌, ℕ, ◌+◌, ◌≤◌, ◌<◌, List, [], ◌++◌, length, Option, Some, None}
+use Rattle.std.specs.Prelude.{◌≡◌, ℕ, ◌≤◌, ◌<◌, List, [], ◌++◌, length, Option, Some, None}
 use Rattle.std.specs.List.{AllByRecursion}
 use Rattle.osc_model.specs.Limits.{Limits, AreInRange, header_size}
-use Rattle.osc_model.specs.Limits.{max_recording}
 use Rattle.osc_model.specs.Events.{Entry}
 use Rattle.osc_model.specs.Recordings.{header_text, record_text}
 use Rattle.osc_record.specs.Reading.{HasNoHeader}
 use Rattle.osc_story.specs.declared.follower.Progress.{Progress}
 use Rattle.osc_story.specs.declared.follower.Progress.TheVariants as progress
-use Rattle.osc_story.specs.declared.follower.TakeFault.{TakeFault}
-use Rattle.osc_story.specs.declared.follower.TakeFault.TheVariants as take
 use Rattle.osc_story.specs.Standings.{Standing, opened, standing_after, AgreesAll}
 use Rattle.osc_story.specs.Seen.{CanBe, text_of, HasNoEntry, BeginsUnlike}
 
@@ -46,12 +43,6 @@ HasComeTo came follower (Some standing) =
 -- these bytes have come, whatever the pieces were
 abbrev pub HasCome : List ℕ → Following → Type 0
 HasCome came follower = HasComeTo came follower follower.standing
-
--- out of memory; or more bytes would have come than the largest recording has
-abbrev pub IsTakeFault : TakeFault → Following → List ℕ → Type 0
-IsTakeFault take.NoMemory follower piece = Unit {0}
-IsTakeFault take.TooLong follower piece =
-    max_recording < follower.passed + (length follower.bytes + length piece)
 
 -- It was followed as far as it goes: the entries end within the limit, and what is left of the rest
 -- after them begins so.

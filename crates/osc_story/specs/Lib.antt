@@ -2,6 +2,7 @@
 pub mod Totals
 pub mod Standings
 pub mod Seen
+pub mod KeptBytes
 pub mod Following
 -- Inside the crate.
 pub mod Hits

@@ -1,19 +1,13 @@
 -- Inside the crate: what is seen of bytes that begin with a header.
-use Rattle.std.specs.Prelude.{◌≡◌, ℕ, ◌+◌, ◌-◌, ◌<◌, ◌≤◌, List, ◌++◌, length, take, drop, Option}
-use Rattle.std.specs.Prelude.{Some, None}
+use Rattle.std.specs.Prelude.{◌≡◌, ℕ, ◌<◌, ◌≤◌, List, Option, Some, None}
 use Rattle.osc_model.specs.declared.late.Late.{Late}
-use Rattle.osc_model.specs.Limits.{header_size}
 use Rattle.osc_record.specs.Reading.{HasNoHeader}
 use Rattle.osc_record.specs.Unread.{Remaining, HasHeader}
 use Rattle.osc_story.specs.declared.reader.Stop.{Stop}
-use Rattle.osc_story.specs.declared.reader.Stop.TheVariants as stop
-use Rattle.osc_story.specs.declared.follower.Progress.{Progress}
-use Rattle.osc_story.specs.declared.follower.Progress.TheVariants as progress
 use Rattle.osc_story.specs.declared.look.Look.{Look}
 use Rattle.osc_story.specs.declared.look.Look.TheVariants as look
 use Rattle.osc_story.specs.Standings.{Standing, opened}
 use Rattle.osc_story.specs.Seen.{HasSeen}
-use Rattle.osc_story.specs.Following.{Following}
 
 -- what stands, also before the first entry
 abbrev pub begun : Option Standing → Late → Standing
@@ -41,25 +35,3 @@ abbrev pub LooksAt : Look → List ℕ → ℕ → Option Standing → Option St
 LooksAt look.Malformed bytes came old new = HasNoHeader bytes 0 × (new ≡ old)
 LooksAt look.TooLong bytes came old new = IsPast bytes came × (new ≡ old)
 LooksAt (look.Saw cause) bytes came old new = SawAfter bytes came old cause new
-
--- the place up to which was seen, of so many bytes
-abbrev pub place_of : ℕ → Stop → ℕ
-place_of all stop.End = all
-place_of all (stop.NotWhole at) = at
-place_of all (stop.Disagrees at why) = at
-place_of all (stop.NoMemory at) = at
-
--- the header and the bytes from a place on are kept
-abbrev pub from_place : Following → ℕ → Following
-from_place follower place =
-    record follower {
-      bytes = take header_size follower.bytes ++ drop place follower.bytes;
-      passed = follower.passed + (place - header_size);
-    }
-
--- what is said of it
-abbrev pub progress_of : ℕ → Stop → Progress
-progress_of place stop.End = progress.CaughtUp
-progress_of place (stop.NotWhole at) = progress.CaughtUp
-progress_of place (stop.Disagrees at why) = progress.Disagrees place why
-progress_of place (stop.NoMemory at) = progress.NoMemory

@@ -2,9 +2,8 @@
 use Rattle.std.specs.Prelude.{ℕ, ◌+◌, ◌-◌, ◌^◌, ◌==◌, min, Bool, false, if◌then◌else◌, List, []}
 use Rattle.std.specs.Prelude.{◌∷◌, length, Option, Some, None}
 use Rattle.osc_packet.specs.Units.{TimedUnit}
-use Rattle.osc_packet.specs.Reading.{units_read}
 use Rattle.osc_model.specs.declared.late.Late.{Late}
-use Rattle.osc_model.specs.Events.{Event, submit, release, Answer, Hit, queued, units_full}
+use Rattle.osc_model.specs.Events.{Answer, Hit, queued, units_full}
 use Rattle.osc_model.specs.Events.{pool_full, released}
 use Rattle.osc_model.specs.Step.{is_kept}
 use Rattle.osc_story.specs.declared.totals.Totals.{Totals}

@@ -1,13 +1,12 @@
 //! A recording that comes in pieces.
-ghost use Rattle.std.specs.Prelude.{◌≡◌, ◌≤◌, ◌++◌, length, take, drop};
-ghost use Rattle.osc_story.specs.Looks as spec;
+ghost use Rattle.std.specs.Prelude.{◌≡◌};
 
 use crate::disagreement::Disagreement;
+use crate::kept_bytes::KeptBytes;
 use crate::look::{Look, look_at};
-use crate::reader::Stop;
 use crate::story::Story;
-use osc_record::{HEADER_SIZE, MAX_RECORDING, laws as records};
-use std::alloc::{AllocError, Global};
+use osc_record::{HEADER_SIZE, laws as records};
+use std::alloc::Global;
 use std::marker::Model;
 
 /// How far a recording was followed.
@@ -40,32 +39,27 @@ pub enum TakeFault {
 #[derive(Drop)]
 pub struct Follower {
     alloc: Global,
-    /// The header, and after it the bytes that come after the last entry that was seen.
-    bytes: Vec<u8>,
-    /// How many bytes the entries have that were seen.
-    passed: u32,
+    kept: KeptBytes,
     story: Option<Story>,
 }
 
 impl Model for Follower {
-    ghost use Rattle.osc_model.specs.Limits.{max_recording};
-    ghost use Rattle.std.specs.Prelude.{◌+◌, ◌≤◌, length};
     ghost use Rattle.osc_story.specs.Following.{Following};
 
     ghost Value = { Following };
 
-    ghost view = { λ f. record { bytes = f.bytes.items; passed = f.passed; standing = f.story } };
-
-    ghost invariant = { λ f. f.passed + length f.bytes.items ≤ max_recording };
+    ghost view = { λ f. record {
+      bytes = f.kept.bytes;
+      passed = f.kept.passed;
+      standing = f.story;
+    } };
 }
 
 impl Follower {
-    ghost use Rattle.std.specs.Prelude.{◌≡◌, ◌+◌, ◌≤◌, ◌++◌, List, ℕ, length, OnOk, OnErr, IfErr};
+    ghost use Rattle.std.specs.Prelude.{◌≡◌, ◌+◌, ◌++◌, List, ℕ, length, OnOk, OnErr, IfErr};
     ghost use Rattle.std.specs.Option.{option_map};
-    ghost use Rattle.osc_model.specs.Limits.{header_size, max_recording};
-    ghost use Rattle.osc_story.specs.Looks.{from_place, place_of, progress_of};
-    ghost use Rattle.osc_story.specs.Following.{HasCome, IsTakeFault, Progresses};
-    ghost use Rattle.osc_story.specs.Following.{unbegun};
+    ghost use Rattle.osc_story.specs.KeptBytes.{IsTakeFault};
+    ghost use Rattle.osc_story.specs.Following.{HasCome, Progresses, unbegun};
 
     /// Nothing has come yet. Takes no memory.
     pub fn open(alloc: Global) -> Follower
@@ -73,8 +67,7 @@ impl Follower {
     {
         Follower {
             alloc,
-            bytes: Vec::new(alloc),
-            passed: 0,
+            kept: KeptBytes::none(alloc),
             story: None,
         }
     }
@@ -90,26 +83,11 @@ impl Follower {
     pub fn take(&mut self, piece: &[u8]) -> Result<(), TakeFault>
         ensures came { (came : List ℕ) → HasCome came self.old
             → OnOk result (HasCome (came ++ piece.now) self.new) }
-        ensures why { IfErr result (λ fault. IsTakeFault fault self.old piece.now) }
+        ensures why { IfErr result (λ fault.
+            IsTakeFault fault (self.old.passed + length self.old.bytes) piece.now) }
         ensures err { OnErr result (self.new ≡ self.old) }
     {
-        if piece.len() > (MAX_RECORDING - self.passed) as usize - self.bytes.len() {
-            return Err(TakeFault::TooLong);
-        }
-        match self.append(piece) {
-            Ok(()) => Ok(()),
-            Err(_) => Err(TakeFault::NoMemory),
-        }
-    }
-
-    /// There is room for the piece within the largest recording.
-    fn append(&mut self, piece: &[u8]) -> Result<(), AllocError>
-        requires { self.old.passed + (length self.old.bytes + length piece.now) ≤ max_recording }
-        ensures ok { OnOk result
-            (self.new ≡ record self.old { bytes = self.old.bytes ++ piece.now }) }
-        ensures err { OnErr result (self.new ≡ self.old) }
-    {
-        self.bytes.extend_from_slice(piece)
+        self.kept.take(piece)
     }
 
     /// Sees all entries that are whole, or up to one that can't be seen.
@@ -119,60 +97,14 @@ impl Follower {
     {
         records::sizes();
         records::headers_differ();
-        if self.bytes.len() < HEADER_SIZE as usize {
+        if self.kept.bytes().len() < HEADER_SIZE as usize {
             return Progress::NoHeader;
         }
-        let came = self.passed + self.bytes.len() as u32;
-        match look_at(self.alloc, &mut self.story, &self.bytes, came) {
+        let came = self.kept.came();
+        match look_at(self.alloc, &mut self.story, self.kept.bytes(), came) {
             Look::Malformed => Progress::Malformed,
             Look::TooLong => Progress::TooLong,
-            Look::Saw(stop) => self.keep_after(stop),
+            Look::Saw(stop) => self.kept.keep_after(stop),
         }
     }
-
-    /// Keeps the header and the bytes after the entries that were seen.
-    fn keep_after(&mut self, stop: Stop) -> Progress
-        requires after { header_size ≤ place_of (length self.old.bytes) stop }
-        requires within { place_of (length self.old.bytes) stop ≤ length self.old.bytes }
-        ensures kept { self.new ≡ from_place self.old (place_of (length self.old.bytes) stop) }
-        ensures said { result ≡ progress_of (header_size + self.new.passed) stop }
-    {
-        let place = place_of(self.bytes.len() as u32, stop);
-        cut(&mut self.bytes, HEADER_SIZE as usize, place as usize);
-        self.passed += place - HEADER_SIZE;
-        progress_of(HEADER_SIZE + self.passed, stop)
-    }
-}
-
-/// The place up to which was seen, of so many bytes.
-fn place_of(all: u32, stop: Stop) -> u32
-    ensures { result ≡ spec.place_of all stop }
-{
-    match stop {
-        Stop::End => all,
-        Stop::NotWhole { at } => at,
-        Stop::Disagrees { at, .. } => at,
-        Stop::NoMemory { at } => at,
-    }
-}
-
-/// What is said of a stop at a place.
-fn progress_of(at: u32, stop: Stop) -> Progress
-    ensures { result ≡ spec.progress_of at stop }
-{
-    match stop {
-        Stop::End => Progress::CaughtUp,
-        Stop::NotWhole { .. } => Progress::CaughtUp,
-        Stop::Disagrees { why, .. } => Progress::Disagrees { at, why },
-        Stop::NoMemory { .. } => Progress::NoMemory,
-    }
-}
-
-/// Cuts the bytes between two places out.
-fn cut(bytes: &mut Vec<u8>, from: usize, to: usize)
-    requires order { from ≤ to }
-    requires within { to ≤ length bytes.old.items }
-    ensures { bytes.new.items ≡ take from bytes.old.items ++ drop to bytes.old.items }
-{
-    bytes.drain(from..to);
 }

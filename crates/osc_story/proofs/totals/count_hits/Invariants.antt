@@ -1,4 +1,4 @@
-use Rattle.std.proofs.Common.{◌≡◌, ◌+◌, ◌*◌, ◌≤◌, length}
+use Rattle.std.proofs.Common.{◌≡◌, ◌+◌, ◌≤◌, length}
 use Rattle.osc_model.specs.Recordings.{hits_in}
 use Rattle.osc_story.specs.Totals.{heard_after, heard_in}
 use Rattle.osc_story.proofs.totals.count_hits.Given as goal
