@@ -17,12 +17,12 @@ use Rattle.osc_atoms.specs.Atoms.{word, tag}
 use Rattle.osc_message.specs.Messages.{Argument, integer, float, text, content, long, time, double, symbol, character, rgba, midi, true_}
 use Rattle.osc_message.specs.Messages.{false_, nil, infinitum}
 use Rattle.osc_message.specs.Messages.{array_start, array_end, Fits, AllFit}
-use Rattle.osc_print.specs.Words.{spaced, argument_word, is_shown, shown_byte}
+use Rattle.osc_print.specs.Words.{spaced, argument_word, argument_words, is_shown, shown_byte}
 use Rattle.osc_script.specs.Words.{words_of, lines_of}
 use Rattle.osc_script.proofs.Cutting.{feed_ends, space_ends, last_word}
 use Rattle.osc_script.proofs.Inked.{is_inked, is_inside, all_more, all_inside, no_spaces, no_feeds, kept_whole, digits_inked, moment_bytes}
 use Rattle.osc_score.specs.Scores.{Note, IsOfBytes}
-use Rattle.osc_notes.specs.Notes.{words_text, note_text, score_text}
+use Rattle.osc_notes.specs.Notes.{note_text, score_text}
 use Rattle.osc_notes.proofs.Printed.{digits_are, bytes_small, byte_first}
 
 -- a word of bytes above the space
@@ -85,17 +85,17 @@ word_inked array_end fits bytes = (refl, omega arith)
 -- Words with a space before each.
 
 words_cut : (word : List ℕ) → IsInked word → (arguments : List Argument) → AllFit arguments → AllByRecursion IsOfBytes arguments
-    → words_of (word ++ words_text arguments) ≡ word ∷ map argument_word arguments
+    → words_of (word ++ argument_words arguments) ≡ word ∷ map argument_word arguments
 words_cut word is [] fit bytes = ap words_of (append-nil word) ∙ last_word word (no_spaces word is.0) is.1
 words_cut word is (argument ∷ arguments) fit bytes =
-    space_ends word (argument_word argument ++ words_text arguments) (no_spaces word is.0) is.1
+    space_ends word (argument_word argument ++ argument_words arguments) (no_spaces word is.0) is.1
     ∙ ap (λ words. word ∷ words) (words_cut (argument_word argument) (word_inked argument fit.0 bytes.0) arguments fit.1 bytes.1)
 
 words_inside : (arguments : List Argument) → AllFit arguments → AllByRecursion IsOfBytes arguments
-    → list_all is_inside (words_text arguments) ≡ true
+    → list_all is_inside (argument_words arguments) ≡ true
 words_inside [] fit bytes = refl
 words_inside (argument ∷ arguments) fit bytes =
-    list_all-append is_inside (spaced (argument_word argument)) (words_text arguments)
+    list_all-append is_inside (spaced (argument_word argument)) (argument_words arguments)
     ∙ ap₂ (λ a b. a && b) (all_inside (argument_word argument) (word_inked argument fit.0 bytes.0).0) (words_inside arguments fit.1 bytes.1)
 
 -- A line begins with a digit.
@@ -124,7 +124,7 @@ pub note_cut : (note : Note) → list_all is_inked note.address ≡ true → 0 <
     → IsCut note
 note_cut note inked some fit bytes =
     let moment : List ℕ = encode_lower (tag note.tag) in
-    let rest : List ℕ = note.address ++ words_text note.arguments in
+    let rest : List ℕ = note.address ++ argument_words note.arguments in
     let long : 0 < length moment = omega (arith, length-encode_with lower_digits (tag note.tag)) in
     let is : list_all is_inked moment ≡ true = digits_inked (tag note.tag) (moment_bytes note.tag) in
     record {
@@ -132,7 +132,7 @@ note_cut note inked some fit bytes =
           ∙ ap (λ words. moment ∷ words) (words_cut note.address (inked, some) note.arguments fit bytes);
       inside = list_all-append is_inside moment (32 ∷ rest)
           ∙ ap₂ (λ a b. a && b) (all_inside moment is)
-          (list_all-append is_inside note.address (words_text note.arguments)
+          (list_all-append is_inside note.address (argument_words note.arguments)
           ∙ ap₂ (λ a b. a && b) (all_inside note.address inked) (words_inside note.arguments fit bytes));
       mark = no_mark moment (32 ∷ rest) (all_digits (tag note.tag) (moment_bytes note.tag)) long;
     }

@@ -4,22 +4,17 @@ use Rattle.std.specs.List.{flat_map}
 use Rattle.hex.specs.Hex.{encode_lower}
 use Rattle.osc_atoms.specs.Atoms.{tag}
 use Rattle.osc_pattern.specs.Patterns.{matches}
-use Rattle.osc_message.specs.Messages.{Argument}
 use Rattle.osc_message.specs.Reading.{pattern_of}
 use Rattle.osc_message.specs.Arguments.{message_arguments}
-use Rattle.osc_print.specs.Words.{spaced, argument_word}
+use Rattle.osc_print.specs.Words.{spaced, argument_words}
 use Rattle.osc_score.specs.declared.fault.ScoreFault.{ScoreFault}
 use Rattle.osc_score.specs.Scores.{Note}
 use Rattle.osc_score.specs.Reading.{note_added}
 
--- a space and a word for each argument
-abbrev pub words_text : List Argument → List ℕ
-words_text arguments = flat_map (λ argument. spaced (argument_word argument)) arguments
-
 -- a note's moment in 16 hexadecimal digits, its address, and its arguments
 abbrev pub note_text : Note → List ℕ
 note_text note =
-    encode_lower (tag note.tag) ++ (spaced note.address ++ words_text note.arguments)
+    encode_lower (tag note.tag) ++ (spaced note.address ++ argument_words note.arguments)
 
 -- the same, and the line's end
 abbrev pub note_line : Note → List ℕ

@@ -5,11 +5,10 @@ ghost use Rattle.osc_message.specs.Reading.{pattern_of};
 ghost use Rattle.osc_notes.specs.Notes.{note_line, note_for, score_text, notes_of};
 ghost use Rattle.osc_notes.specs.Answers.{AddsNotes};
 
-use crate::bytes::{add_hex, add_spaced};
 use crate::refusal::NotesError;
-use crate::word::add_words;
 use osc_message::Message;
 use osc_pattern::{Address, Pattern, Steps};
+use osc_print::Text;
 use std::alloc::AllocError;
 use std::marker::Brand;
 use std::sync::ledger::{Blank, Ledger};
@@ -18,12 +17,12 @@ use std::sync::ledger::{Blank, Ledger};
 /// order: the moment, the method's address, and the message's arguments. After `NoMemory` a part of
 /// them may stand.
 pub fn add_notes(
-    text: &mut Vec<u8>,
+    text: &mut Text,
     moment: u64,
     message: &Message<'_>,
     methods: &[Address],
 ) -> Result<(), NotesError>
-    ensures { AddsNotes result moment message.now methods.now text.old.items text.new.items }
+    ensures { AddsNotes result moment message.now methods.now text.old text.new }
 {
     match message.unknown() {
         Some(byte) => Err(NotesError::UnknownTag(byte)),
@@ -33,13 +32,13 @@ pub fn add_notes(
 
 /// Adds the lines of a message whose tags are known.
 fn add_lines(
-    text: &mut Vec<u8>,
+    text: &mut Text,
     moment: u64,
     message: &Message<'_>,
     methods: &[Address],
 ) -> Result<(), AllocError>
-    ensures { OnOk result (text.new.items
-        ≡ text.old.items ++ score_text (notes_of moment message.now methods.now)) }
+    ensures { OnOk result (text.new
+        ≡ text.old ++ score_text (notes_of moment message.now methods.now)) }
 {
     let pattern = message.pattern();
     for method in methods {
@@ -52,19 +51,18 @@ fn add_lines(
 
 /// Adds the line of one method.
 fn add_note(
-    text: &mut Vec<u8>,
+    text: &mut Text,
     moment: u64,
     method: &Address,
     message: &Message<'_>,
 ) -> Result<(), AllocError>
-    ensures { OnOk result (text.new.items
-        ≡ text.old.items ++ note_line (note_for moment message.now method.now)) }
+    ensures { OnOk result (text.new
+        ≡ text.old ++ note_line (note_for moment message.now method.now)) }
 {
-    add_hex(text, &moment.to_be_bytes())?;
-    add_spaced(text, method.bytes())?;
-    add_words(text, message)?;
-    text.push(b'\n')?;
-    Ok(())
+    text.hex(&moment.to_be_bytes())?;
+    text.space_word(method.bytes())?;
+    text.space_arguments(message)?;
+    text.end_line()
 }
 
 fn matches_one(pattern: &Pattern<'_>, method: &Address) -> bool

@@ -1,10 +1,9 @@
 -- Printed lines.
 use Rattle.std.specs.Prelude.{ℕ, List, [], ◌∷◌, ◌++◌, codes}
-use Rattle.std.specs.List.{flat_map}
 use Rattle.std.specs.Fmt.{decimal}
 use Rattle.osc_atoms.specs.declared.fault.Fault.{Fault}
 use Rattle.osc_message.specs.Arguments.{tags_of, message_arguments}
-use Rattle.osc_print.specs.Words.{spaced, argument_word, tags_word}
+use Rattle.osc_print.specs.Words.{spaced, argument_words, tags_word}
 
 -- a line ends with a line feed
 abbrev pub line : List ℕ → List ℕ
@@ -20,14 +19,12 @@ call_head unit index id address =
 abbrev pub call_text : ℕ → ℕ → ℕ → List ℕ → List ℕ → List ℕ
 call_text unit index id address message =
     line (call_head unit index id address
-    ++ (spaced (tags_word (tags_of message))
-    ++ flat_map (λ argument. spaced (argument_word argument)) (message_arguments message)))
+    ++ (spaced (tags_word (tags_of message)) ++ argument_words (message_arguments message)))
 
 -- what the lines of all calls with a message end with
 abbrev pub call_end : List ℕ → List ℕ
 call_end message =
-    line (spaced (tags_word (tags_of message))
-    ++ flat_map (λ argument. spaced (argument_word argument)) (message_arguments message))
+    line (spaced (tags_word (tags_of message)) ++ argument_words (message_arguments message))
 
 -- the line of a fault of the packet in a line of a script
 abbrev pub fault_text : ℕ → Fault → List ℕ

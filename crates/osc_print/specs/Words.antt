@@ -42,6 +42,10 @@ argument_word infinitum = codes "I"
 argument_word array_start = codes "["
 argument_word array_end = codes "]"
 
+-- a space and a word for each argument
+abbrev pub argument_words : List Argument → List ℕ
+argument_words arguments = flat_map (λ argument. spaced (argument_word argument)) arguments
+
 -- a comma and the tags, or a dash where there is no tag string
 abbrev pub tags_word : Option (List ℕ) → List ℕ
 tags_word None = codes "-"

@@ -1,20 +1,36 @@
-// Arguments, as words.
+//! Arguments, as words.
 ghost use Rattle.std.specs.Prelude.{◌≡◌, ◌++◌, OnOk, OnErr};
 ghost use Rattle.std.specs.Fmt.{signed_decimal};
 ghost use Rattle.std.specs.List.{flat_map, list_all};
 ghost use Rattle.hex.specs.Hex.{encode_lower};
 ghost use Rattle.osc_atoms.specs.Atoms;
+ghost use Rattle.osc_message.specs.Arguments.{message_arguments};
 ghost use Rattle.osc_message.specs.Shown.{shown};
-ghost use Rattle.osc_print.specs.Words.{argument_word, spaced, shown_byte, is_shown, BeginsWith};
+ghost use Rattle.osc_print.specs.Words.{argument_word, argument_words, spaced, shown_byte};
+ghost use Rattle.osc_print.specs.Words.{is_shown, BeginsWith};
 
 use crate::Text;
 use itoa::Buffer;
-use osc_message::Arg;
+use osc_message::{Arg, Message};
 use std::alloc::AllocError;
 
 impl Text {
+    /// Adds a space and a word for each argument of the message (docs/FORMATS.md, "Printed text"). After an `Err` some of
+    /// them may stand.
+    #[inline(always)]
+    pub fn space_arguments(&mut self, message: &Message<'_>) -> Result<(), AllocError>
+        ensures ok { OnOk result (self.new
+            ≡ self.old ++ argument_words (message_arguments message.now)) }
+        ensures err { OnErr result (BeginsWith self.new self.old) }
+    {
+        for argument in message.args() {
+            self.space_argument(argument)?;
+        }
+        Ok(())
+    }
+
     /// Adds a space and the word of an argument.
-    pub(crate) fn space_argument(&mut self, argument: Arg<'_>) -> Result<(), AllocError>
+    fn space_argument(&mut self, argument: Arg<'_>) -> Result<(), AllocError>
         ensures ok { OnOk result (self.new
             ≡ self.old ++ spaced (argument_word (shown argument.entry))) }
         ensures err { OnErr result (BeginsWith self.new self.old) }

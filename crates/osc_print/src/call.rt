@@ -1,9 +1,8 @@
 //! The line of a call.
 ghost use Rattle.std.specs.Prelude.{◌≡◌, ◌++◌, OnOk, OnErr};
 ghost use Rattle.std.specs.Option.{option_copied};
-ghost use Rattle.std.specs.List.{flat_map};
 ghost use Rattle.osc_message.specs.Arguments.{tags_of, message_arguments};
-ghost use Rattle.osc_print.specs.Words.{argument_word, spaced, tags_word, BeginsWith};
+ghost use Rattle.osc_print.specs.Words.{argument_words, spaced, tags_word, BeginsWith};
 ghost use Rattle.osc_print.specs.Lines.{call_head, call_end, call_text};
 ghost use Rattle.osc_print.specs.Entries.{invocation_text};
 
@@ -135,15 +134,11 @@ impl Text {
     fn message_words(&mut self, message: &Message<'_>) -> Result<(), AllocError>
         ensures ok { OnOk result (self.new
             ≡ self.old ++ (spaced (tags_word (tags_of message.now))
-            ++ flat_map (λ argument. spaced (argument_word argument))
-            (message_arguments message.now))) }
+            ++ argument_words (message_arguments message.now))) }
         ensures err { OnErr result (BeginsWith self.new self.old) }
     {
         self.space_tags(message.tags())?;
-        for argument in message.args() {
-            self.space_argument(argument)?;
-        }
-        Ok(())
+        self.space_arguments(message)
     }
 
     fn space_tags(&mut self, tags: Option<&[u8]>) -> Result<(), AllocError>

@@ -51,6 +51,14 @@ impl Text {
         self.bytes.as_slice()
     }
 
+    /// The whole text, as the list that holds it.
+    pub fn into_bytes(self) -> Vec<u8>
+        ensures { result.items ≡ self }
+    {
+        let Text { bytes } = self;
+        bytes
+    }
+
     /// Adds the bytes.
     pub fn word(&mut self, word: &[u8]) -> Result<(), AllocError>
         ensures ok { OnOk result (self.new ≡ self.old ++ word.now) }
@@ -106,7 +114,7 @@ impl Text {
     }
 
     /// Adds two lower-case hexadecimal digits for each byte.
-    pub(crate) fn hex(&mut self, bytes: &[u8]) -> Result<(), AllocError>
+    pub fn hex(&mut self, bytes: &[u8]) -> Result<(), AllocError>
         ensures ok { OnOk result (self.new ≡ self.old ++ encode_lower bytes.now) }
         ensures err { OnErr result (self.new ≡ self.old) }
     {

@@ -5,6 +5,7 @@ use osc_cues::{Setting, Sheet};
 use osc_message::Message;
 use osc_notes::{NotesError, add_notes};
 use osc_pattern::Address;
+use osc_print::Text;
 use std::alloc::Global;
 use std::test::Fail;
 
@@ -82,7 +83,7 @@ fn sheet(alloc: Global, methods: &[Address]) -> Result<Sheet, Fail> {
 
 /// Adds the notes of a message's bytes.
 fn add(
-    text: &mut Vec<u8>,
+    text: &mut Text,
     moment: u64,
     bytes: &[u8],
     methods: &[Address],
@@ -97,31 +98,31 @@ fn add(
 fn a_sheet_is_written_as_a_score(rt: HostRuntime) -> Result<(), Fail> {
     let methods = methods(rt.alloc())?;
     let sheet = sheet(rt.alloc(), &methods)?;
-    let mut text = Vec::new(rt.alloc());
+    let mut text = Text::open(rt.alloc());
     for cue in sheet.cues() {
         let added = add(&mut text, cue.tag, cue.message.as_slice(), &methods)?;
         assert!(rt; added == Ok(()));
     }
-    assert!(rt; text.as_slice() == SCORE);
+    assert!(rt; text.bytes() == SCORE);
     Ok(())
 }
 
 #[test]
 fn a_message_without_tags_has_no_words(rt: HostRuntime) -> Result<(), Fail> {
     let methods = methods(rt.alloc())?;
-    let mut text = Vec::new(rt.alloc());
+    let mut text = Text::open(rt.alloc());
     let added = add(&mut text, 2, b"/light/{side,back}\x00\x00", &methods)?;
     assert!(rt; added == Ok(()));
     let lines = b"0000000000000002 /light/back\n0000000000000002 /light/side\n";
-    assert!(rt; text.as_slice() == lines.as_slice());
+    assert!(rt; text.bytes() == lines.as_slice());
     Ok(())
 }
 
 #[test]
 fn an_unknown_tag_is_reported_and_adds_nothing(rt: HostRuntime) -> Result<(), Fail> {
     let methods = methods(rt.alloc())?;
-    let mut text = Vec::new(rt.alloc());
-    text.extend_from_slice(b"here")?;
+    let mut text = Text::open(rt.alloc());
+    text.word(b"here")?;
     let added = add(
         &mut text,
         2,
@@ -129,6 +130,6 @@ fn an_unknown_tag_is_reported_and_adds_nothing(rt: HostRuntime) -> Result<(), Fa
         &methods,
     )?;
     assert!(rt; added == Err(NotesError::UnknownTag(b'x')));
-    assert!(rt; text.as_slice() == b"here".as_slice());
+    assert!(rt; text.bytes() == b"here".as_slice());
     Ok(())
 }

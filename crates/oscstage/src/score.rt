@@ -7,6 +7,7 @@ use osc_ends::write_text;
 use osc_message::Message;
 use osc_notes::{NotesError, add_notes};
 use osc_packet::MAX_PACKET;
+use osc_print::Text;
 use osc_score::{Score, ScoreRefusal};
 use std::alloc::AllocError;
 
@@ -14,8 +15,8 @@ use std::alloc::AllocError;
 /// that no score has them.
 pub(crate) fn write_score(rt: &HostRuntime, read: &SheetRead) -> Result<u8, AllocError> {
     let text = notes_of(rt, read)?;
-    match Score::read(rt.alloc(), &text) {
-        Ok(_) => Ok(write_text(DONE, &text, &mut StdSink::open(rt))),
+    match Score::read(rt.alloc(), text.bytes()) {
+        Ok(_) => Ok(write_text(DONE, text.bytes(), &mut StdSink::open(rt))),
         Err(ScoreRefusal::NoMemory) => Err(AllocError),
         Err(ScoreRefusal::Fault(fault)) => {
             report_score(rt, fault.line);
@@ -25,11 +26,11 @@ pub(crate) fn write_score(rt: &HostRuntime, read: &SheetRead) -> Result<u8, Allo
 }
 
 /// The lines of all notes.
-fn notes_of(rt: &HostRuntime, read: &SheetRead) -> Result<Vec<u8>, AllocError> {
+fn notes_of(rt: &HostRuntime, read: &SheetRead) -> Result<Text, AllocError> {
     let alloc = rt.alloc();
     let mut methods = addresses_of(alloc, &read.patch)?;
     methods.sort_unstable_by(|one, other| one.bytes().cmp(other.bytes()));
-    let mut text = Vec::new(alloc);
+    let mut text = Text::open(alloc);
     for cue in read.sheet.cues() {
         let message = Message::check(cue.message.as_slice(), MAX_PACKET);
         let (Some(tag), Ok(message)) = (read.played_at(cue.tag), message) else {

@@ -4,4 +4,4 @@ use Rattle.osc_notes.proofs.note.add_lines.Given as goal
 
 abbrev pub invariant-loop-method : goal.invariant-loop-method
 invariant-loop-method l =
-    l.text.items ≡ l.initial.text.items ++ score_text (notes_of l.moment l.message (take l.method-index l.methods))
+    l.text ≡ l.initial.text ++ score_text (notes_of l.moment l.message (take l.method-index l.methods))
