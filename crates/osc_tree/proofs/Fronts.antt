@@ -207,7 +207,7 @@ begun_names : (text address : List ℕ) → 0 < length text → starts_with nat_
 begun_names [] address some e = absurd (omega arith)
 begun_names (x ∷ text) address some e = ap (drop 1) (begun_append (x ∷ text) address e)
 
-filter_passes : (test : Method → Bool) (methods : List Method) (k : ℕ) (d : Method) → k < length (filter test methods)
+pub filter_passes : (test : Method → Bool) (methods : List Method) (k : ℕ) (d : Method) → k < length (filter test methods)
     → test (get_or (filter test methods) k d) ≡ true
 filter_passes test [] k d lt = absurd (omega arith)
 filter_passes test (method ∷ methods) k d lt = go (test method) refl k lt (λ i less. filter_passes test methods i d less) where
@@ -232,7 +232,7 @@ near_front text names count bytes methods near e some is begun i j d first secon
         ∙ ap (λ l. l ++ drop (length text) (get_or near k d).address) (sym is)
 
 -- the slash at its front isn't special
-front_some : (pattern : List ℕ) (end : ℕ) → begins_with_slash pattern ≡ true → position is_special pattern ≡ Some end → 0 < end
+pub front_some : (pattern : List ℕ) (end : ℕ) → begins_with_slash pattern ≡ true → position is_special pattern ≡ Some end → 0 < end
 front_some [] end slash e = absurd (cc)
 front_some (x ∷ rest) end slash e =
     let first : x ≡ 47 = (let h : is_slash x ≡ true = slash in grind (arith, nat_tests)) in

@@ -34,5 +34,6 @@ mod Gathered
 pub mod Advances
 pub mod Taken
 pub mod Overs
+mod Flats
 mod Bounds
 mod Depths

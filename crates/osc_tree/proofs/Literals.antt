@@ -5,7 +5,7 @@ use Rattle.std.specs.Prelude.{Result, Ok, Err}
 use Rattle.std.specs.List.{list_any, slice_split, onto_first, before_first, position_or_len, starts_with}
 use Rattle.std.specs.Option.{option_map}
 use Rattle.std.proofs.lemmas.Bool.Decides.{nat_tests}
-use Rattle.std.proofs.lemmas.Bool.{both_ways, and_parts}
+use Rattle.std.proofs.lemmas.Bool.{both_ways, and_parts, eq-eqb}
 use Rattle.osc_pattern.specs.Items.{Item, any, star, set, choice, plain, is_slash, is_list_end, is_choice_end}
 use Rattle.osc_pattern.specs.Cuts.{match_items}
 use Rattle.osc_pattern.specs.Reading.{cut_at, first_item, read_part, read_within, match_read, match_part, with_first}
@@ -32,7 +32,7 @@ first_plain byte rest special slash =
     go false false false false true p q r s others more = absurd (cc)
     go false false false false false p q r s others more = refl
 
-part_plain : (byte : ℕ) (part name : List ℕ) → is_special byte ≡ false → is_slash byte ≡ false
+pub part_plain : (byte : ℕ) (part name : List ℕ) → is_special byte ≡ false → is_slash byte ≡ false
     → match_part (byte ∷ part) name ≡ match_read (with_first (Some (plain byte, read_part part))) name
 unfolding read_part
 part_plain byte part name special slash =
@@ -52,6 +52,22 @@ after_plain byte x (Ok items) name e = go (x == byte) refl e where
 no_name : (byte : ℕ) (items : Result (List Item) ℕ) → match_read (with_first (Some (plain byte, items))) [] ≡ false
 no_name byte (Err at) = refl
 no_name byte (Ok items) = refl
+
+own_first : (byte : ℕ) (items : Result (List Item) ℕ) (name : List ℕ) → match_read (with_first (Some (plain byte, items))) (byte ∷ name) ≡ match_read items name
+own_first byte (Err at) name = refl
+own_first byte (Ok items) name = go (byte == byte) (eq-eqb byte byte refl) where
+  last : (b : Bool) → (b || false) ≡ b
+  last true = refl
+  last false = refl
+
+  go : (t : Bool) → t ≡ true → list_any (match_items items) (cond t (name ∷ []) []) ≡ match_items items name
+  go true e = last (match_items items name)
+  go false e = absurd (cc)
+
+-- a plain byte that both begin with decides nothing
+pub plain_same : (byte : ℕ) (part name : List ℕ) → is_special byte ≡ false → is_slash byte ≡ false
+    → match_part (byte ∷ part) (byte ∷ name) ≡ match_part part name
+plain_same byte part name special slash = part_plain byte part (byte ∷ name) special slash ∙ own_first byte (read_part part) name
 
 -- a part that begins with a plain byte matches names that begin with that byte
 pub plain_first : (byte x : ℕ) (part name : List ℕ) → is_special byte ≡ false → is_slash byte ≡ false → match_part (byte ∷ part) (x ∷ name) ≡ true

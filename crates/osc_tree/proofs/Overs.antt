@@ -74,7 +74,7 @@ split_at (x ∷ name) rest e =
     slice_split-cons_no is_slash x (name ++ 47 ∷ rest) both.0 ∙ ap (onto_first x) (split_at name rest both.1)
 
 -- what isn't before a slash and more, and is before what follows a slash, begins with a slash
-slash_first : (z r : List ℕ) → lower z (47 ∷ r) ≡ false → lower z (48 ∷ []) ≡ true → (ys : List ℕ) × (z ≡ 47 ∷ ys)
+pub slash_first : (z r : List ℕ) → lower z (47 ∷ r) ≡ false → lower z (48 ∷ []) ≡ true → (ys : List ℕ) × (z ≡ 47 ∷ ys)
 slash_first [] r e f = absurd (cc)
 slash_first (y ∷ ys) r e f = (ys, ap (λ b. b ∷ ys) is) where
   one : cond (nat_lt y 47) true (cond (y == 47) (lower ys r) false) ≡ false

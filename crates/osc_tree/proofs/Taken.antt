@@ -143,7 +143,7 @@ end_searched pattern methods at wild text plain d below sorted =
     (end_ahead pattern methods at wild text plain d below)
 
 -- what is before a text stands ahead of where the search for it came to
-ahead_of : (methods : List Method) (at end : ℕ) (d : Method) (text : List ℕ) → at < length methods → lower (get_or methods at d).address text ≡ true
+pub ahead_of : (methods : List Method) (at end : ℕ) (d : Method) (text : List ℕ) → at < length methods → lower (get_or methods at d).address text ≡ true
     → IsSearched text methods end end → at < end
 ahead_of methods at end d text within ahead searched = go (nat_lt at end) refl where
   go : (t : Bool) → nat_lt at end ≡ t → at < end

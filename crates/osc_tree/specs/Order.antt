@@ -1,11 +1,12 @@
 -- Inside the crate: the methods in ascending order of their addresses, and the places where they
 -- stand in the order of adding.
-use Rattle.std.specs.Prelude.{◌≡◌, ℕ, ◌≤◌, ◌<◌, Bool, true, false, nat_eq, nat_lt, get_or, ◌-◌}
-use Rattle.std.specs.Prelude.{if◌then◌else◌, List, [], length, take, fold, All}
-use Rattle.std.specs.List.{starts_with}
+use Rattle.std.specs.Prelude.{◌≡◌, ℕ, ◌≤◌, ◌<◌, Bool, true, false, nat_eq, nat_lt, get_or, ◌-◌, not}
+use Rattle.std.specs.Prelude.{if◌then◌else◌, List, [], length, take, drop, fold, All}
+use Rattle.std.specs.List.{list_any, starts_with}
 use Rattle.std.specs.Ordering.{is_lt, nat_cmp}
 use Rattle.std.specs.Cmp.Lexicographic.{slice_cmp}
 use Rattle.osc_pattern.specs.declared.limits.TheConstants.{MAX_NAMES}
+use Rattle.osc_pattern.specs.Items.{is_slash}
 use Rattle.osc_pattern.specs.Methods.{Method}
 use Rattle.osc_pattern.specs.Patterns.{parts_of}
 use Rattle.osc_tree.specs.declared.registered.Registered.{Registered}
@@ -42,6 +43,10 @@ is_before text method = is_lt (slice_cmp nat_cmp method.address text)
 -- whether the method's address begins with the text
 abbrev pub begins_with : List ℕ → Method → Bool
 begins_with text method = starts_with nat_eq method.address text
+
+-- whether the method's address has no slash from a byte on
+abbrev pub is_flat : ℕ → Method → Bool
+is_flat from method = not (list_any is_slash (drop from method.address))
 
 -- a search for the first method that isn't before a text: all below low are before it, and none
 -- from high on

@@ -9,6 +9,7 @@ mod choice;
 mod common_names;
 mod course;
 mod depth;
+mod flat;
 mod guesses;
 mod hits;
 mod ids;

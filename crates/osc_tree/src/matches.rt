@@ -15,6 +15,7 @@ ghost use Rattle.osc_tree.specs.Walking.{IsSorted, IsFront};
 
 use crate::choice::{add_chosen, find_choice};
 use crate::course::walk_found;
+use crate::flat::add_flat;
 use crate::guesses::Guesses;
 use crate::ids::add_id;
 use crate::literal::first_special;
@@ -27,7 +28,8 @@ use crate::walk::Walk;
 use osc_pattern::{Pattern, Steps};
 use std::sync::ledger::Ledger;
 
-/// What a tree keeps so that less is searched: guesses of where methods stand, and how many names an address has at most.
+/// What a tree keeps so that less is searched: guesses of where methods stand, and a number of names
+/// that no address exceeds.
 #[derive(Clone, Copy)]
 pub(crate) struct Hints<'a> {
     pub(crate) guesses: &'a Guesses,
@@ -42,9 +44,10 @@ struct Outline {
     front: Front,
 }
 
-/// Fills the list with the ids of the methods that the pattern matches, in ascending order of the address. A pattern
-/// without special bytes is looked up; else only the methods that begin with its literal front are tried. One with more
-/// parts than any method's address has names matches none.
+/// Fills the list with the ids of the methods that the pattern matches, in ascending order of the
+/// address. A pattern without special bytes is looked up; else only the methods that begin with its
+/// literal front are tried. Where a star is all that follows the front, no name is matched. A pattern
+/// with more parts than any method's address has names matches none.
 #[inline(always)]
 pub(crate) fn find_ids<L: Ledger>(
     methods: &[Registered],
@@ -103,6 +106,9 @@ fn look_up<L: Ledger>(
     let text = pattern.bytes();
     match first_special(text) {
         Some(end) => {
+            if add_flat(methods, places, pattern, end, ids) {
+                return;
+            }
             if add_choice(methods, places, hints.guesses, pattern, end, ids) {
                 return;
             }

@@ -55,7 +55,7 @@ fn cut_name(names: &[u8]) -> Option<(&[u8], &[u8])>
     Some((&names[..end], &names[end + 1..]))
 }
 
-fn first_slash(names: &[u8]) -> Option<usize>
+pub(crate) fn first_slash(names: &[u8]) -> Option<usize>
     ensures { result ≡ position is_slash names.now }
 {
     names.iter().position(|byte| *byte == b'/')

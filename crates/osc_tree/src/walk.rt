@@ -63,7 +63,7 @@ impl Pace {
         if is_aim { self.onward } else { self.over }
     }
 
-    /// The same, to an aim or over a node.
+    /// After a method that doesn't match, and a search past so many, to an aim or over a node.
     pub(crate) fn went(self, is_aim: bool, count: usize) -> Pace {
         if is_aim {
             return self.went_on(count);
