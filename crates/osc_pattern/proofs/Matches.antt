@@ -7,6 +7,7 @@ use Rattle.osc_pattern.specs.Items.{Item, star}
 use Rattle.osc_pattern.specs.Cuts.{rests, has_byte, after_byte, after_item}
 use Rattle.osc_pattern.specs.Reading.{first_item, with_first, read_part, match_read, match_part}
 use Rattle.osc_pattern.specs.declared.item.Item.{Item as Borrowed}
+use Rattle.osc_pattern.specs.declared.item.Item.TheVariants.{Star}
 use Rattle.osc_pattern.specs.declared.item.Item.TheVariants.{Any, Set, Plain}
 use Rattle.osc_pattern.specs.Views.{item_of}
 use Rattle.osc_pattern.proofs.Readings.{read_part-item, read_part-nil, read_part-stuck}
@@ -76,6 +77,12 @@ star_last (x ∷ name) = go (match_part [] (x ∷ name)) (star_last name) where
   go : (t : Bool) → list_any (match_part []) (rests name) ≡ true → (t || list_any (match_part []) (rests name)) ≡ true
   go true e = refl
   go false e = e
+
+-- and so does a part whose last item is a star, what is left of a name
+pub star_at_end : (part others name : List ℕ) (item : Borrowed) → first_item part ≡ Some (item_of item, others) → item ≡ Star
+    → length others ≡ 0 → match_part part name ≡ true
+star_at_end part [] name item found is none = match_part-item part star [] name (found ∙ ap (λ i. Some (item_of i, [])) is) ∙ star_last name
+star_at_end part (x ∷ others) name item found is none = absurd (omega arith)
 
 pub star_matches : (part name : List ℕ) → length part ≡ 1 → get_or part 0 0 ≡ 42 → match_part part name ≡ true
 star_matches [] name one is = absurd (omega arith)

@@ -38,7 +38,7 @@ pub(crate) fn match_part<L: Ledger>(part: &[u8], name: &[u8], steps: &mut Steps<
             return part.is_empty() && name.is_empty();
         };
         match item {
-            Item::Star => return match_places(part, name, steps),
+            Item::Star => return others.is_empty() || match_places(part, name, steps),
             Item::Choice(_) => return match_choices(part, &first_place(), name, steps),
             Item::Any | Item::Set(_) | Item::Plain(_) => {
                 let [byte, rest @ ..] = name else {

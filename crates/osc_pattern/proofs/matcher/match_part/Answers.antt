@@ -1,9 +1,9 @@
-use Rattle.std.proofs.Common.{◌≡◌, ◌&&◌, ◌==◌, ◌+◌, ◌-◌, ◌*◌, true, false, length, take, drop, sym, ap, ◌∙◌, arith}
+use Rattle.std.proofs.Common.{◌≡◌, rules, ◌&&◌, ◌==◌, ◌+◌, ◌-◌, ◌*◌, true, false, length, take, drop, sym, ap, ◌∙◌, arith}
 use Rattle.std.proofs.Math.ListN.{get_or}
 use Rattle.osc_pattern.specs.Items.{item_text}
 use Rattle.osc_pattern.specs.Cuts.{has_byte}
 use Rattle.osc_pattern.specs.Views.{item_of}
-use Rattle.osc_pattern.proofs.Matches.{match_part-stuck, own_byte, other_byte, no_byte}
+use Rattle.osc_pattern.proofs.Matches.{match_part-stuck, own_byte, other_byte, no_byte, star_at_end}
 use Rattle.osc_pattern.proofs.Reaches.{first_item-size, row_step, first_and_rest, no_rest}
 use Rattle.osc_pattern.proofs.matcher.match_part.Goals as goal
 
@@ -76,3 +76,11 @@ loop-item-preserved g c =
       omega arith,
       omega arith,
     )
+
+pub returns-then-is_empty-2-clause-value : goal.returns-then-is_empty-2-clause-value
+returns-then-is_empty-2-clause-value g c =
+    let others = c.in-Some.others.now in
+    let none : length others ≡ 0 = search rules in
+    c.if-is_empty-2.true
+    ∙ sym (star_at_end c.loop-item.part.now others c.loop-item.name.now c.in-Some.item (sym c.in-Some.ensures.value) c.in-Star.is none)
+    ∙ c.loop-item.invariant.0
