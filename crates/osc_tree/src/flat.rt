@@ -67,9 +67,9 @@ fn add_near(methods: &[Registered], near: &[u32], from: usize, ids: &mut Vec<u32
     let mut at = 0;
     let mut over = 0;
     while at < near.len() {
-        let next = add_one(methods, near, at, over, from, ids);
-        at = next.0;
-        over = next.1;
+        let (next, passed) = add_one(methods, near, at, over, from, ids);
+        at = next;
+        over = passed;
     }
 }
 
