@@ -20,10 +20,11 @@ use std::alloc::{AllocError, Global};
 use std::cmp::Ordering;
 use std::marker::Model;
 
-/// The address of a method: a slash before each name, 1 to 16 names of 1 to 63 bytes, at most 255 bytes.
+/// The address of a method: a slash before each name, 1 to 16 names of 1 to 63 bytes, at most 255
+/// bytes.
 ///
-/// The bytes of a name are from 0x21 to 0x7E, without `#*,?[]{}` (OSC 1.0, "OSC Address Spaces and OSC Addresses").
-/// Addresses are ordered by their bytes.
+/// The bytes of a name are from 0x21 to 0x7E, without `#*,?[]{}` (OSC 1.0, "OSC Address Spaces and
+/// OSC Addresses"). Addresses are ordered by their bytes.
 #[derive(Debug)]
 pub struct Address {
     bytes: Vec<u8>,
@@ -67,7 +68,8 @@ impl Address {
         }
     }
 
-    /// The address that the bytes were checked to be, in memory of its own. An `Err` means out of memory.
+    /// The address that the bytes were checked to be, in memory of its own. An `Err` means out of
+    /// memory.
     pub fn known(alloc: Global, bytes: &[u8]) -> Result<Address, AllocError>
         requires { IsTrue (is_address bytes.now) }
         ensures { IfOk result (λ address. address ≡ bytes.now) }

@@ -1,5 +1,6 @@
 // Sets of bytes.
-ghost use Rattle.std.specs.Prelude.{◌≡◌, ◌≤◌, ◌<◌, ◌+◌, ◌||◌, ◌&&◌, ◌==◌, ℕ, false, nat_lt, nat_le, min};
+ghost use Rattle.std.specs.Prelude.{◌≡◌, ◌≤◌, ◌<◌, ◌+◌, ◌||◌, ◌&&◌, ◌==◌, ℕ, false, nat_lt, nat_le};
+ghost use Rattle.std.specs.Prelude.{min};
 ghost use Rattle.std.specs.Prelude.{length};
 ghost use Rattle.osc_pattern.specs.Items.{stands_for, is_in_set, is_between};
 ghost use Rattle.osc_pattern.specs.ReadyParts.{is_one_of, is_as};
@@ -15,7 +16,8 @@ pub(crate) struct ByteSet {
     words: [u64; 4],
 }
 
-/// The bytes that a set matches: those of a list, or with a first `!` all but those of the rest of it.
+/// The bytes that a set matches: those of a list, or with a first `!` all but those of the rest of
+/// it.
 #[derive(Clone, Copy)]
 pub(crate) struct ReadSet {
     pub(crate) bytes: ByteSet,

@@ -57,8 +57,9 @@ fn look_for_fault(bytes: &[u8], parts: &[u8]) -> Option<PatternFault>
     }
 }
 
-/// Whether the bytes are some 4 to 16 that have no fault: none is out of range, and none opens a bracket. They are looked
-/// at all at once, as the first of them and the last of them, which overlap.
+/// Whether the bytes are some 4 to 16 that have no fault: none is out of range, and none opens a
+/// bracket. They are looked at all at once, as the first of them and the last of them, which
+/// overlap.
 #[inline(always)]
 fn is_bare(bytes: &[u8]) -> bool
     ensures { IsTrue result → list_any is_odd bytes.now ≡ false }

@@ -1,7 +1,7 @@
 //! Why a pattern or an address is refused.
 
-/// What is wrong with a pattern, and where: `kind` is one of the constants below, `at` the place of the byte,
-/// counted from the pattern's first byte.
+/// What is wrong with a pattern, and where: `kind` is one of the constants below, `at` the place of
+/// the byte, counted from the pattern's first byte.
 #[derive(Clone, Copy, Debug, PartialEq, Eq)]
 pub struct PatternFault {
     /// One of the numbers below.

@@ -19,7 +19,8 @@ pub(crate) enum Item<'a> {
     Plain(u8),
 }
 
-/// The first item of a part, and what follows it. `None` comes for an empty part, and where a bracket isn't closed.
+/// The first item of a part, and what follows it. `None` comes for an empty part, and where a
+/// bracket isn't closed.
 pub(crate) fn first_item(part: &[u8]) -> Option<(Item<'_>, &[u8])>
     ensures value { option_map (λ found. (item_of found.0, found.1.now)) result
         ≡ first_item part.now }
@@ -50,7 +51,8 @@ fn is_in_set<L: Ledger>(list: &[u8], byte: u8, steps: &mut Steps<L>) -> bool
     }
 }
 
-/// Whether the byte is one of those that the list stands for. A range counts as one byte, so it takes one step.
+/// Whether the byte is one of those that the list stands for. A range counts as one byte, so it
+/// takes one step.
 fn stands_for<L: Ledger>(list: &[u8], byte: u8, steps: &mut Steps<L>) -> bool
     ensures value { result ≡ stands_for list.now byte }
     ensures counted { steps.old ≤ steps.new }
@@ -67,7 +69,8 @@ fn stands_for<L: Ledger>(list: &[u8], byte: u8, steps: &mut Steps<L>) -> bool
     false
 }
 
-/// The ends of the first range of a list, and what follows it. A byte that begins no range is both ends.
+/// The ends of the first range of a list, and what follows it. A byte that begins no range is both
+/// ends.
 pub(crate) fn first_range(list: &[u8]) -> Option<((u8, u8), &[u8])>
     ensures { option_map (λ found. (found.0, found.1.now)) result ≡ first_range list.now }
 {

@@ -45,7 +45,8 @@ pub fn an_address_is_a_pattern()
         → (Match address other ↔ (address ≡ other)) }
 {}
 
-/// The first choice or the longest star isn't enough; a reversed range; a `-` after a range; nodes that methods share.
+/// The first choice or the longest star isn't enough; a reversed range; a `-` after a range; nodes
+/// that methods share.
 pub fn examples()
     ensures choice { matches (codes "/{a,ab}c") (codes "/abc") ≡ true }
     ensures star { matches (codes "/*ab") (codes "/aab") ≡ true }

@@ -1,4 +1,5 @@
-//! Address patterns and addresses of Open Sound Control 1.0 ("OSC Message Dispatching and Pattern Matching").
+//! Address patterns and addresses of Open Sound Control 1.0 ("OSC Message Dispatching and Pattern
+//! Matching").
 #![tactic(auto)]
 
 mod address;

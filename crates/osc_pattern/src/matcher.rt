@@ -1,9 +1,11 @@
 // The matcher: one item of a part after another, and the places of the name that they reach.
 ghost use Rattle.osc_pattern.specs.declared.limits.TheConstants.{MAX_NAME};
-ghost use Rattle.std.specs.Prelude.{◌≡◌, ◌≤◌, ◌<◌, ◌+◌, ◌*◌, ◌||◌, ℕ, Bool, false, List, ◌∷◌, length};
+ghost use Rattle.std.specs.Prelude.{◌≡◌, ◌≤◌, ◌<◌, ◌+◌, ◌*◌, ◌||◌, ℕ, Bool, false, List, ◌∷◌};
+ghost use Rattle.std.specs.Prelude.{length};
 ghost use Rattle.std.specs.Prelude.{IsTrue, IfSome, MatchOption, Some, None};
 ghost use Rattle.std.specs.List.{flat_map, list_any, slice_split};
-ghost use Rattle.osc_pattern.specs.Items.{is_comma, item_text, any, set, choice, plain, Item as Spelled};
+ghost use Rattle.osc_pattern.specs.Items.{is_comma, item_text, any, set, choice, plain};
+ghost use Rattle.osc_pattern.specs.Items.{Item as Spelled};
 ghost use Rattle.osc_pattern.specs.Cuts.{rests, after_text, after_byte, after_item};
 ghost use Rattle.osc_pattern.specs.Reading.{first_item, match_part};
 ghost use Rattle.osc_pattern.specs.Views.{item_of, passes, is_choice, idle_bytes, begins_empty};
@@ -57,7 +59,8 @@ pub(crate) fn match_part<L: Ledger>(part: &[u8], name: &[u8], steps: &mut Steps<
 /// A part with more bytes than this is worth noting at which places of the name each byte stands.
 const SHORT_PART: usize = 64;
 
-/// Whether a part matches a name, by the places that its items reach, up to the first choice. A long part isn't begun.
+/// Whether a part matches a name, by the places that its items reach, up to the first choice. A
+/// long part isn't begun.
 fn match_places<L: Ledger>(part: &[u8], name: &[u8], steps: &mut Steps<L>) -> bool
     requires { length name.now ≤ MAX_NAME }
     ensures value { result ≡ match_part part.now name.now }
@@ -79,9 +82,9 @@ fn match_places<L: Ledger>(part: &[u8], name: &[u8], steps: &mut Steps<L>) -> bo
     part.is_empty() && reached.has(name.len())
 }
 
-/// Whether a part matches what is left of a name at one of the places. The places at which each byte of the name stands
-/// are noted once, so that a byte of a choice is tried at all places at once. Their room takes long to clear, and so this is
-/// not put into its callers.
+/// Whether a part matches what is left of a name at one of the places. The places at which each
+/// byte of the name stands are noted once, so that a byte of a choice is tried at all places at
+/// once. Their room takes long to clear, and so this is not put into its callers.
 #[inline(never)]
 fn match_choices<L: Ledger>(part: &[u8], from: &Places, name: &[u8], steps: &mut Steps<L>) -> bool
     requires { length name.now ≤ MAX_NAME }
@@ -104,8 +107,8 @@ fn match_choices<L: Ledger>(part: &[u8], from: &Places, name: &[u8], steps: &mut
     }
 }
 
-/// The places that stand after a text of the part's first item from one of these, and what follows the item, without what
-/// adds nothing there.
+/// The places that stand after a text of the part's first item from one of these, and what follows
+/// the item, without what adds nothing there.
 #[inline(always)]
 fn after_first<'a, L: Ledger>(
     part: &'a [u8],
@@ -135,8 +138,8 @@ fn after_first<'a, L: Ledger>(
     Some((next, without_empty(left)))
 }
 
-/// The places that stand after a text of the part's first item from one of these, and what follows the item. A choice's end
-/// is found on the way.
+/// The places that stand after a text of the part's first item from one of these, and what follows
+/// the item. A choice's end is found on the way.
 #[inline(always)]
 fn after_next<'a, L: Ledger>(
     part: &'a [u8],
@@ -171,7 +174,8 @@ fn after_next<'a, L: Ledger>(
     Some((next, others))
 }
 
-/// The places that stand after one of the texts of a choice, and what follows its end. The text begins after its brace.
+/// The places that stand after one of the texts of a choice, and what follows its end. The text
+/// begins after its brace.
 #[inline(always)]
 fn after_texts<'a, L: Ledger>(
     texts: &'a [u8],
@@ -222,8 +226,8 @@ pub(crate) fn match_ready<L: Ledger>(part: Part<'_>, name: &[u8], steps: &mut St
     match_items(part, name, steps)
 }
 
-/// The same, for a part with items. It alone needs the room of the marks, which takes long to clear, and so is not put into
-/// its caller.
+/// The same, for a part with items. It alone needs the room of the marks, which takes long to
+/// clear, and so is not put into its caller.
 #[inline(never)]
 fn match_items<L: Ledger>(part: Part<'_>, name: &[u8], steps: &mut Steps<L>) -> bool
     requires { length name.now ≤ MAX_NAME }
@@ -350,8 +354,8 @@ fn places_after_ready<L: Ledger>(
     }
 }
 
-/// The places that stand after so many repeats of the items from one of these. Where one of them leaves the places as they
-/// were, the others do.
+/// The places that stand after so many repeats of the items from one of these. Where one of them
+/// leaves the places as they were, the others do.
 #[inline(never)]
 fn after_many<L: Ledger>(
     many: &Many<'_>,
@@ -409,7 +413,8 @@ fn places_after_all<L: Ledger>(
     Places::none()
 }
 
-/// The places that stand one byte after one of these, where the byte is in the set, or where it isn't.
+/// The places that stand one byte after one of these, where the byte is in the set, or where it
+/// isn't.
 fn after_one<L: Ledger>(
     bytes: &ByteSet,
     within: bool,
@@ -518,8 +523,8 @@ fn after_plain<L: Ledger>(
     reached.after(marks[own as usize])
 }
 
-/// The places that stand one byte after one of these, where the set matches the byte. The list is read once for all places,
-/// a step for each range.
+/// The places that stand one byte after one of these, where the set matches the byte. The list is
+/// read once for all places, a step for each range.
 fn after_set<L: Ledger>(list: &[u8], reached: &Places, name: &[u8], steps: &mut Steps<L>) -> Places
     requires { length name.now ≤ MAX_NAME }
     ensures value { (test : List ℕ → Bool) → passes test result name.now
@@ -575,7 +580,8 @@ fn after_star<L: Ledger>(reached: &Places, steps: &mut Steps<L>) -> Places
     reached.onward()
 }
 
-/// The places that stand after one of the texts from one of these. Each byte is tried at all places at once.
+/// The places that stand after one of the texts from one of these. Each byte is tried at all places
+/// at once.
 fn after_choice<L: Ledger>(
     texts: &[u8],
     reached: &Places,
@@ -602,7 +608,8 @@ fn after_choice<L: Ledger>(
     next
 }
 
-/// Takes the places on by the bytes of a choice, eight at a time, and answers the bytes that are left, fewer than eight.
+/// Takes the places on by the bytes of a choice, eight at a time, and answers the bytes that are
+/// left, fewer than eight.
 fn try_eights<'a, L: Ledger>(
     texts: &'a [u8],
     reached: &Places,

@@ -23,10 +23,11 @@ use crate::steps::Steps;
 use std::marker::Model;
 use std::sync::ledger::Ledger;
 
-/// A pattern, borrowed. It begins with `/`, has bytes from 0x20 to 0x7E, and closes each `[` and `{` in its part.
+/// A pattern, borrowed. It begins with `/`, has bytes from 0x20 to 0x7E, and closes each `[` and
+/// `{` in its part.
 ///
-/// The pieces that a part is made of stand in docs/FORMATS.md, "Patterns" (after OSC 1.0, "OSC Message Dispatching
-/// and Pattern Matching").
+/// The pieces that a part is made of stand in docs/FORMATS.md, "Patterns" (after OSC 1.0, "OSC
+/// Message Dispatching and Pattern Matching").
 #[derive(Debug, Drop)]
 pub struct Pattern<'a> {
     bytes: &'a [u8],
@@ -47,8 +48,8 @@ impl<'a> Model for Pattern<'a> {
 impl<'a> Pattern<'a> {
     /// The pattern that the bytes are, or its first fault. It takes no memory.
     ///
-    /// The faults are tried in this order, each over the whole text before the next: no `/` first, a byte out of
-    /// range, a bracket that isn't closed.
+    /// The faults are tried in this order, each over the whole text before the next: no `/` first,
+    /// a byte out of range, a bracket that isn't closed.
     #[inline(always)]
     pub fn check(bytes: &'a [u8]) -> Result<Pattern<'a>, PatternFault>
         requires { length bytes.now ≤ MAX_PATTERN }
@@ -108,9 +109,10 @@ impl<'a> Pattern<'a> {
 
     /// Whether the part at this place, counted from 0, matches the name. It takes no memory.
     ///
-    /// A step is to examine one byte of the part, or its end, for one place of the name or for all of them at once. Each
-    /// range of a list counts as one byte; a list that was read for all places at once takes one step more for each place.
-    /// To look for the end of a part or of a bracket, and to pass stars and `{}` that add nothing, takes none.
+    /// A step is to examine one byte of the part, or its end, for one place of the name or for all
+    /// of them at once. Each range of a list counts as one byte; a list that was read for all
+    /// places at once takes one step more for each place. To look for the end of a part or of a
+    /// bracket, and to pass stars and `{}` that add nothing, takes none.
     #[tactic(auto, using(crate::proofs::PatternLaws::laws))]
     pub fn matches_part<L: Ledger>(&self, part: u32, name: &[u8], steps: &mut Steps<L>) -> bool
         requires part { part < length (parts_of self.now) }
@@ -125,8 +127,8 @@ impl<'a> Pattern<'a> {
         self.matches_found(part, Part::whole(self.part(part)), name, steps)
     }
 
-    /// The same, for a part that `part` found before, so that it isn't looked for again for each name. Where
-    /// `ReadyPart::read` read it once for all names, that took no step.
+    /// The same, for a part that `part` found before, so that it isn't looked for again for each
+    /// name. Where `ReadyPart::read` read it once for all names, that took no step.
     #[tactic(auto, using(crate::proofs::PatternLaws::laws))]
     pub fn matches_found<L: Ledger>(
         &self,
@@ -148,8 +150,8 @@ impl<'a> Pattern<'a> {
         match_ready(found, name, steps)
     }
 
-    /// Whether the pattern matches the address: both have as many parts, and each part matches the name at its
-    /// place. It takes no memory.
+    /// Whether the pattern matches the address: both have as many parts, and each part matches the
+    /// name at its place. It takes no memory.
     ///
     /// Steps are counted as in `matches_part`.
     #[tactic(auto, using(crate::proofs::PatternLaws::laws))]

@@ -9,7 +9,8 @@ ghost use Rattle.std.specs.Prelude.{◌*◌};
 ghost use Rattle.osc_pattern.specs.Cuts.{after_item};
 ghost use Rattle.osc_pattern.specs.Repeats.{after_times};
 ghost use Rattle.osc_pattern.specs.Views.{item_of};
-ghost use Rattle.osc_pattern.specs.ReadyParts.{after_ready, match_ready, ready_size, IsReadOf, StandsFor};
+ghost use Rattle.osc_pattern.specs.ReadyParts.{after_ready, match_ready, ready_size, IsReadOf};
+ghost use Rattle.osc_pattern.specs.ReadyParts.{StandsFor};
 
 use crate::bytes::ReadSet;
 use crate::item::{Item, first_item};
@@ -109,7 +110,8 @@ impl<'a> Part<'a> {
     }
 }
 
-/// Choices and stars after so many items are made ready all together, so that there is room for the lists after them.
+/// Choices and stars after so many items are made ready all together, so that there is room for the
+/// lists after them.
 const MOST_ALONE: usize = 16;
 
 /// What the part begins with, made ready, and what follows it without what adds nothing there.

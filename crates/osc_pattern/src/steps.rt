@@ -22,7 +22,8 @@ impl<L: Ledger> Model for Steps<L> {
 }
 
 impl<L: Ledger> Steps<L> {
-    /// A counter that stands at 0. A caller that counts nothing makes it from `Blank::new(1)` for the ledger `Brand`.
+    /// A counter that stands at 0. A caller that counts nothing makes it from `Blank::new(1)` for
+    /// the ledger `Brand`.
     pub fn new(blank: Blank) -> Steps<L>
         requires name { blank.name ≡ L.name }
         requires parts { blank.parts ≡ L.parts }

@@ -22,10 +22,10 @@ use Rattle.osc_pattern.specs.Reading.{match_part}
 use Rattle.osc_pattern.proofs.Parts.{split-cons}
 use Rattle.osc_pattern.proofs.PatternLaws.{parts_of-no_slash}
 use Rattle.osc_pattern.proofs.PlainPatterns.{same_bytes}
-use Rattle.osc_tree.specs.Order.{is_before, IsSearched}
+use Rattle.osc_tree.specs.Order.{IsSearched}
 use Rattle.osc_tree.specs.Views.{methods_at}
 use Rattle.osc_tree.specs.declared.registered.Registered.{Registered}
-use Rattle.osc_tree.specs.Walking.{shared, agreeing, known_at, IsAim, IsOnward, IsWalked, IsSorted}
+use Rattle.osc_tree.specs.Walking.{shared, agreeing, known_at, IsOnward, IsWalked, IsSorted}
 use Rattle.osc_tree.proofs.Alike.{part_first, all_agree, agreeing_names, matched_agree, shared_turn, shared_through, taken_shared}
 use Rattle.osc_tree.proofs.Alike.{agree_too, prefix_names, prefix_slash, shares_node}
 use Rattle.osc_tree.proofs.Beginnings.{address_low}

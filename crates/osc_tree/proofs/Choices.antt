@@ -1,19 +1,19 @@
 -- Where a walk goes on after a name that a part with a choice doesn't match.
-use Rattle.std.proofs.Common.{◌≡◌, ℕ, zero, suc, ◌+◌, ◌<◌, ◌≤◌, ◌⊎◌, inl, inr, Bool, true, false, cond, ◌||◌, ◌==◌, nat_eq, nat_lt}
-use Rattle.std.proofs.Common.{List, [], ◌∷◌, ◌++◌, length, take, drop, position, Some, None}
-use Rattle.std.proofs.Common.{append_assoc, drop-cons, add-one, Option, Bor, IfSome, MatchOption, get_or, All, refl, sym, ap, subst, ◌∙◌, arith, Contains}
+use Rattle.std.proofs.Common.{◌≡◌, ℕ, zero, suc, ◌+◌, ◌<◌, ◌⊎◌, inl, inr, Bool, true, false, cond, ◌||◌, nat_eq, nat_lt}
+use Rattle.std.proofs.Common.{List, [], ◌∷◌, ◌++◌, length, take, drop, position, Some}
+use Rattle.std.proofs.Common.{append_assoc, drop-cons, add-one, get_or, All, refl, sym, ap, subst, ◌∙◌, arith, Contains}
 use Rattle.std.specs.List.{list_any, slice_split, onto_first, flat_map, starts_with}
 use Rattle.std.specs.Option.{option_map}
 use Rattle.std.specs.Str.{bytes_eq}
-use Rattle.std.proofs.lemmas.List.{take-append-drop, length-append, length-take-le}
+use Rattle.std.proofs.lemmas.List.{take-append-drop, length-take-le}
 use Rattle.std.proofs.lemmas.List.Concat.{flat_map-cons}
 use Rattle.std.proofs.lemmas.List.Elements.{All-cons, All-head, All-tail, All-nil}
 use Rattle.std.proofs.lemmas.List.Folds.{list_any-append}
 use Rattle.std.proofs.lemmas.Bool.{both_ways, or_parts, and_parts}
 use Rattle.std.proofs.lemmas.Bool.Decides.{nat_tests}
 use Rattle.std.proofs.lemmas.Slice.Eq.{bytes_eq-Decides}
-use Rattle.osc_pattern.specs.Cuts.{after_text, after_item}
-use Rattle.osc_pattern.specs.Items.{Item, choice, is_comma, is_choice_end, is_slash}
+use Rattle.osc_pattern.specs.Cuts.{after_text}
+use Rattle.osc_pattern.specs.Items.{choice, is_comma, is_choice_end, is_slash}
 use Rattle.osc_pattern.specs.Patterns.{is_special}
 use Rattle.osc_pattern.specs.Reading.{cut_at, first_item, match_part}
 use Rattle.osc_pattern.proofs.Cutting.{CutAt, cut_at-cuts}
@@ -22,8 +22,8 @@ use Rattle.osc_pattern.proofs.Parts.{split-cons}
 use Rattle.osc_tree.specs.Walking.{is_ahead, IsAim, IsReached}
 use Rattle.osc_tree.proofs.Lists.{position-some, contains_later}
 use Rattle.osc_tree.proofs.Literals.{empty_part}
-use Rattle.osc_tree.proofs.Onward.{IsBetween, Begun, part_front, front_between, plain_front, none_taken, one_piece}
-use Rattle.osc_tree.proofs.Onward.{lower_prefix, low_behind, low_end, none_between}
+use Rattle.osc_tree.proofs.Onward.{IsBetween, part_front, front_between, plain_front, none_taken, one_piece}
+use Rattle.osc_tree.proofs.Onward.{lower_prefix, low_behind, low_end}
 use Rattle.osc_tree.proofs.Ranges.{lower, lower_order, lower_more}
 
 -- a choice's texts have no slash where it has none

@@ -1,25 +1,24 @@
 -- A pattern that is plain but for a choice of plain texts matches the addresses that the texts make.
-use Rattle.std.proofs.Common.{◌≡◌, ℕ, zero, suc, ◌+◌, ◌<◌, ◌≤◌, Bool, true, false, cond, ◌||◌, ◌&&◌, ◌==◌, nat_eq, List, [], ◌∷◌, ◌++◌, length, take, drop}
+use Rattle.std.proofs.Common.{◌≡◌, ℕ, Bool, true, false, cond, ◌||◌, ◌&&◌, ◌==◌, List, [], ◌∷◌, ◌++◌, length, take, drop}
 use Rattle.std.proofs.Common.{get_or, All, refl, sym, ap, subst, ◌∙◌, arith}
 use Rattle.std.specs.List.{list_any, slice_split, onto_first, flat_map}
 use Rattle.std.specs.Str.{bytes_eq}
 use Rattle.std.specs.Option.{option_map}
 use Rattle.std.proofs.Math.Bool.{and_assoc}
-use Rattle.std.proofs.lemmas.List.{append_assoc}
 use Rattle.std.proofs.lemmas.List.Concat.{flat_map-cons}
-use Rattle.std.proofs.lemmas.List.Elements.{All-cons, All-head, All-tail, All-nil}
+use Rattle.std.proofs.lemmas.List.Elements.{All-head, All-tail}
 use Rattle.std.proofs.lemmas.List.Folds.{list_any-append}
 use Rattle.std.proofs.lemmas.List.Splits.{slice_split-cons_no}
 use Rattle.std.proofs.lemmas.Bool.{both_ways, or_parts}
 use Rattle.std.proofs.lemmas.Bool.Decides.{nat_tests}
-use Rattle.osc_pattern.specs.Cuts.{after_text, after_item}
-use Rattle.osc_pattern.specs.Items.{Item, choice, plain, is_comma, is_choice_end, is_slash}
+use Rattle.osc_pattern.specs.Cuts.{after_text}
+use Rattle.osc_pattern.specs.Items.{choice, plain, is_comma, is_choice_end, is_slash}
 use Rattle.osc_pattern.specs.Patterns.{begins_with_slash, is_special, match_parts, matches}
 use Rattle.osc_pattern.specs.Reading.{first_item, match_part, read_part}
 use Rattle.osc_pattern.proofs.Cutting.{cut_at-first}
 use Rattle.osc_pattern.proofs.Matches.{match_part-item}
 use Rattle.osc_pattern.proofs.Parts.{split-cons}
-use Rattle.osc_tree.specs.Choosing.{is_odd, is_chosen, spelled, IsPlainChoice}
+use Rattle.osc_tree.specs.Choosing.{is_odd, is_chosen, IsPlainChoice}
 use Rattle.osc_tree.proofs.Choices.{pieces_none}
 use Rattle.osc_tree.proofs.Literals.{empty_part, first_plain, plain_none}
 

@@ -1,6 +1,6 @@
 -- A plain text and a star match the addresses that begin with the text and have no slash after it; those below a node stand together.
 use Rattle.std.proofs.Common.{◌≡◌, ℕ, zero, suc, ◌+◌, ◌-◌, ◌<◌, ◌≤◌, Bool, true, false, not, cond, ◌&&◌, ◌||◌, List, [], ◌∷◌, ◌++◌, length, take, drop, map}
-use Rattle.std.proofs.Common.{filter, get_or, position, Some, None, All, nat_eq, refl, sym, ap, subst, ◌∙◌, arith, add-one}
+use Rattle.std.proofs.Common.{filter, get_or, position, Some, All, nat_eq, refl, sym, ap, subst, ◌∙◌, arith, add-one}
 use Rattle.std.specs.List.{list_any, slice_split, onto_first, starts_with, before_first}
 use Rattle.std.proofs.Math.Seq.{drop-append_seam, drop-cons, take-suc}
 use Rattle.std.proofs.lemmas.List.{take-append-drop, drop-drop, length-append, length-drop, length-map, length-take-le, map-append}
@@ -111,7 +111,8 @@ flat_ids pattern text registered places near list order slash front first none i
     ∙ found_is pattern text registered places list order slash front)
 
 -- those that begin with a text are as long as it is
-pub begun_long : (text : List ℕ) (methods near : List Method) → near ≡ filter (begins_with text) methods → All (λ method. length text ≤ length method.address) near
+pub begun_long : (text : List ℕ) (methods near : List Method) → near ≡ filter (begins_with text) methods
+    → All (λ method. length text ≤ length method.address) near
 begun_long text methods near e =
     subst (All (λ method. length text ≤ length method.address)) (sym e)
     (λ k d lt. long (get_or (filter (begins_with text) methods) k d).address (filter_passes (begins_with text) methods k d lt)) where

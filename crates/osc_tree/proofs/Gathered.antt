@@ -1,9 +1,9 @@
 -- The methods at the addresses that the texts of a choice make, one text after another.
-use Rattle.std.proofs.Common.{◌≡◌, ℕ, zero, suc, ◌+◌, ◌<◌, ◌≤◌, Bool, true, false, cond, ◌||◌, nat_eq, List, []}
+use Rattle.std.proofs.Common.{◌≡◌, ℕ, suc, ◌+◌, ◌<◌, ◌≤◌, Bool, true, false, cond, ◌||◌, nat_eq, List, []}
 use Rattle.std.proofs.Common.{◌∷◌, ◌++◌, length, take, drop, map, filter, find}
 use Rattle.std.proofs.Common.{Bor, MatchOption, get_or, All, Option, Some, None, position, is_some, drop-cons, add-one, ◌==◌}
 use Rattle.std.proofs.Common.{refl, sym, ap, subst, ◌∙◌, arith, length-append}
-use Rattle.std.specs.List.{list_any, slice_split, starts_with}
+use Rattle.std.specs.List.{slice_split, starts_with}
 use Rattle.std.specs.Option.{option_map, option_to_list}
 use Rattle.std.specs.Str.{bytes_eq}
 use Rattle.std.proofs.lemmas.Bool.{both_ways}
@@ -20,7 +20,7 @@ use Rattle.osc_pattern.specs.Reading.{cut_at}
 use Rattle.osc_pattern.proofs.Cutting.{CutAt, cut_at-cuts}
 use Rattle.osc_tree.specs.declared.registered.Registered.{Registered}
 use Rattle.osc_tree.specs.Choosing.{is_chosen, is_odd, spelled, IsChain, AreInOrder, IsPlainChoice}
-use Rattle.osc_tree.specs.Matching.{is_below, matching, matching_ids, IsAscending}
+use Rattle.osc_tree.specs.Matching.{is_below, matching_ids, IsAscending}
 use Rattle.osc_tree.specs.Order.{IsOrder, ordered}
 use Rattle.osc_tree.specs.Registry.{id_at}
 use Rattle.osc_tree.specs.Views.{methods_of, methods_at}
@@ -30,7 +30,7 @@ use Rattle.osc_tree.proofs.Lawful.{once}
 use Rattle.osc_tree.proofs.Lists.{filter_few, list_any-some, none-find, none_placed, position-some}
 use Rattle.osc_tree.proofs.Onward.{lower_prefix, plain_front}
 use Rattle.osc_tree.proofs.Ranges.{lower, lower_order, lower_more, lower_longer, ascend_far}
-use Rattle.osc_tree.proofs.Sorting.{filter_ordered, matching_is}
+use Rattle.osc_tree.proofs.Sorting.{filter_ordered}
 use Rattle.osc_tree.proofs.Spelled.{filter_one, filter_alike}
 
 -- what passes the second test stands after all that pass the first

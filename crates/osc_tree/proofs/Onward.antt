@@ -1,10 +1,9 @@
 -- Where a walk goes on: at the first method that isn't before a text, which no later one that matches is.
-use Rattle.std.proofs.Common.{◌≡◌, ℕ, zero, suc, ◌+◌, ◌-◌, ◌<◌, ◌≤◌, Bool, true, false, cond, not, ◌||◌, ◌==◌, nat_eq, nat_lt, List}
+use Rattle.std.proofs.Common.{◌≡◌, ℕ, zero, suc, ◌+◌, ◌-◌, ◌<◌, ◌≤◌, Bool, true, false, cond, not, ◌==◌, nat_eq, nat_lt, List}
 use Rattle.std.proofs.Common.{[], ◌∷◌, ◌++◌, length, take, drop, position, Some, None}
 use Rattle.std.proofs.Common.{drop-cons, one-add, Option, Bor, IfSome, get_or, All, refl, sym, ap, subst, ◌∙◌, arith}
 use Rattle.std.specs.List.{list_any, slice_split, onto_first, position_or_len, starts_with}
-use Rattle.std.proofs.Math.Seq.{get_or-append_seam}
-use Rattle.std.proofs.lemmas.List.{append-nil, take-append-drop, length-append, length-drop}
+use Rattle.std.proofs.lemmas.List.{append-nil, take-append-drop}
 use Rattle.std.proofs.lemmas.Bool.{both_ways, or_parts}
 use Rattle.std.proofs.lemmas.Bool.Decides.{nat_tests}
 use Rattle.std.proofs.lemmas.List.Splits.{slice_split-cons_no}
@@ -12,9 +11,8 @@ use Rattle.osc_pattern.specs.Items.{is_slash}
 use Rattle.osc_pattern.specs.Patterns.{is_special}
 use Rattle.osc_pattern.specs.Reading.{match_part}
 use Rattle.osc_pattern.proofs.Parts.{split-cons}
-use Rattle.osc_tree.proofs.Beginnings.{before_end}
 use Rattle.osc_tree.proofs.Compared.{lower_none}
-use Rattle.osc_tree.proofs.Lists.{position-some, position-none, none_placed}
+use Rattle.osc_tree.proofs.Lists.{position-some, none_placed}
 use Rattle.osc_tree.proofs.Literals.{own_beginning, empty_part, plain_first, plain_none}
 use Rattle.osc_tree.specs.Walking.{is_ahead, IsAim, IsReached}
 use Rattle.osc_tree.proofs.Ranges.{lower, lower_order, lower_more, begun_not_before}

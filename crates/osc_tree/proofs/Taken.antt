@@ -5,7 +5,7 @@ use Rattle.std.specs.List.{list_any, slice_split, starts_with}
 use Rattle.std.specs.Str.{bytes_eq}
 use Rattle.std.proofs.Math.Seq.{take-suc, take-append_seam}
 use Rattle.std.proofs.lemmas.List.{append-nil, map-append, take-append-drop, take_rest}
-use Rattle.std.proofs.lemmas.List.Elements.{All-head, All-tail, All-drop}
+use Rattle.std.proofs.lemmas.List.Elements.{All-tail, All-drop}
 use Rattle.std.proofs.lemmas.Bool.{both_ways}
 use Rattle.std.proofs.lemmas.Bool.Decides.{nat_tests}
 use Rattle.std.proofs.lemmas.Slice.Eq.{bytes_eq-Decides}
@@ -18,7 +18,7 @@ use Rattle.osc_pattern.proofs.PlainPatterns.{own_parts, same_bytes}
 use Rattle.osc_tree.specs.Order.{IsSearched}
 use Rattle.osc_tree.specs.Trials.{IsBelow, spelled_at}
 use Rattle.osc_tree.specs.Walking.{agreeing, known_at, IsSorted, IsWalked}
-use Rattle.osc_tree.proofs.Advances.{aimed, begun_rest, cut_front, ArePlain, plain_rest, IsPassing, Node, passed_begins, passed_long, known_passed, past_ahead}
+use Rattle.osc_tree.proofs.Advances.{aimed, begun_rest, cut_front, ArePlain, plain_rest, IsPassing, passed_begins, passed_long, known_passed, past_ahead}
 use Rattle.osc_tree.proofs.Beginnings.{address_low}
 use Rattle.osc_tree.proofs.Charges.{at_slash, at_apart}
 use Rattle.osc_tree.proofs.Literals.{own_beginning}

@@ -124,8 +124,8 @@ AreReadyParts read pattern = (place : ℕ) (d : ReadyPart) → place < length (p
 abbrev pub is_ahead : List ℕ → List ℕ → Bool
 is_ahead first second = is_lt (slice_cmp nat_cmp first second)
 
--- a text without a slash after what is left of an address: what is left of a later one, and begins with a name that
--- the part matches, isn't before the text
+-- a text without a slash after what is left of an address: what is left of a later one, and begins
+-- with a name that the part matches, isn't before the text
 pub record IsAim (part rest text : List ℕ) : Type 0 where
   pub ahead : is_ahead rest text ≡ true
   pub one : length (slice_split is_slash text) ≡ 1
@@ -133,8 +133,8 @@ pub record IsAim (part rest text : List ℕ) : Type 0 where
       → slice_split is_slash other ≡ name ∷ names → match_part part name ≡ true
       → is_ahead other rest ≡ false → is_ahead other text ≡ false
 
--- what begins with a text, and isn't before what is left of an address, isn't before another text either; the byte is above
--- all that stands after the first text
+-- what begins with a text, and isn't before what is left of an address, isn't before another text
+-- either; the byte is above all that stands after the first text
 abbrev pub IsReached : List ℕ → ℕ → List ℕ → List ℕ → Type 0
 IsReached rest end text aim =
     (other : List ℕ) → is_ahead other text ≡ false → is_ahead other (text ++ end ∷ []) ≡ true

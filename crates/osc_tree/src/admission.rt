@@ -22,7 +22,8 @@ pub(crate) struct Admission {
     pub(crate) need: u32,
 }
 
-/// Where the address enters and how many nodes it adds, or why it can't be added. The lines are tried in this order.
+/// Where the address enters and how many nodes it adds, or why it can't be added. The lines are
+/// tried in this order.
 pub(crate) fn admit(
     methods: &[Registered],
     places: &[u32],

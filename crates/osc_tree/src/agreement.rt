@@ -17,8 +17,9 @@ use crate::registered::Registered;
 use osc_pattern::{MAX_NAMES, Part, Pattern, Steps};
 use std::sync::ledger::Ledger;
 
-/// How many parts match the names at their places, from the first on; whether these are all parts and all names, whether
-/// no more than one name stands after them, and whether none does where parts are left.
+/// How many parts match the names at their places, from the first on; whether these are all parts
+/// and all names, whether no more than one name stands after them, and whether none does where
+/// parts are left.
 #[derive(Clone, Copy)]
 pub(crate) struct Agreement {
     pub(crate) matching: u32,
@@ -27,7 +28,8 @@ pub(crate) struct Agreement {
     pub(crate) is_ended: bool,
 }
 
-/// The names that the method at this place has in common with the one before it, if any is. All begin with the front.
+/// The names that the method at this place has in common with the one before it, if any is. All
+/// begin with the front.
 pub(crate) fn known_at(
     methods: &[Registered],
     places: &[u32],
@@ -80,7 +82,8 @@ fn matches_name<L: Ledger>(
     pattern.matches_found(place, part, name, steps)
 }
 
-/// How far a pattern and the names of a method agree. Those parts that the names are known to begin with match.
+/// How far a pattern and the names of a method agree. Those parts that the names are known to begin
+/// with match.
 pub(crate) fn count_matching<L: Ledger>(
     pattern: &Pattern<'_>,
     parts: u32,

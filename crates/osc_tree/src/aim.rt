@@ -1,5 +1,6 @@
 // Where a walk goes on, after a name that a part doesn't match.
-ghost use Rattle.std.specs.Prelude.{◌≡◌, ◌≤◌, ◌<◌, ◌+◌, ◌++◌, ◌∷◌, ◌==◌, ℕ, List, [], All, Contains};
+ghost use Rattle.std.specs.Prelude.{◌≡◌, ◌≤◌, ◌<◌, ◌+◌, ◌++◌, ◌∷◌, ◌==◌, ℕ, List, [], All};
+ghost use Rattle.std.specs.Prelude.{Contains};
 ghost use Rattle.std.specs.Prelude.{IfSome, MatchOption, false, true, length, take, position};
 ghost use Rattle.std.specs.Prelude.{option_map, get_or, nat_eq, Some, if◌then◌else◌};
 ghost use Rattle.std.specs.List.{list_any, slice_split, starts_with};
@@ -13,9 +14,10 @@ use crate::literal::first_special;
 /// A choice with more bytes than this isn't looked into for each name.
 const MOST_TEXTS: usize = 64;
 
-/// A text that no later name which the part matches is before: so many bytes of what is left of the address, and what
-/// follows them. A plain part has one such name, before a slash or at the end; others begin with what stands before the
-/// part's first special byte, and with a text of the choice that follows, if one does.
+/// A text that no later name which the part matches is before: so many bytes of what is left of the
+/// address, and what follows them. A plain part has one such name, before a slash or at the end;
+/// others begin with what stands before the part's first special byte, and with a text of the
+/// choice that follows, if one does.
 pub(crate) fn find_aim<'a>(part: &'a [u8], rest: &[u8]) -> Option<(usize, &'a [u8])>
     requires low { All (λ byte. byte < 127) rest.now }
     requires one { list_any is_slash part.now ≡ false }
@@ -32,8 +34,8 @@ pub(crate) fn find_aim<'a>(part: &'a [u8], rest: &[u8]) -> Option<(usize, &'a [u
     aim_before(&part[..end], 0x7f, rest)
 }
 
-/// The text, where what is left of an address is before it; what no address is after, where it is after the text and
-/// the byte.
+/// The text, where what is left of an address is before it; what no address is after, where it is
+/// after the text and the byte.
 fn aim_before<'a>(text: &'a [u8], end: u8, rest: &[u8]) -> Option<(usize, &'a [u8])>
     requires low { All (λ byte. byte < 127) rest.now }
     requires one { list_any is_slash text.now ≡ false }
@@ -139,8 +141,8 @@ fn first_comma(texts: &[u8]) -> Option<usize>
     texts.iter().position(|byte| *byte == b',')
 }
 
-/// The least of the texts that what is left of an address is before, or what no address is after. There is none where
-/// what is left stands at one of the texts.
+/// The least of the texts that what is left of an address is before, or what no address is after.
+/// There is none where what is left stands at one of the texts.
 fn least_text<'a>(texts: &'a [u8], end: u8, rest: &[u8]) -> Option<&'a [u8]>
     requires low { All (λ byte. byte < 127) rest.now }
     requires one { list_any is_slash texts.now ≡ false }
@@ -162,7 +164,8 @@ fn least_text<'a>(texts: &'a [u8], end: u8, rest: &[u8]) -> Option<&'a [u8]>
     }
 }
 
-/// The text, if it is before what is aimed at and after what is left of the address, which doesn't stand at it.
+/// The text, if it is before what is aimed at and after what is left of the address, which doesn't
+/// stand at it.
 fn nearer<'a>(aim: &'a [u8], text: &'a [u8], end: u8, rest: &[u8]) -> Option<&'a [u8]>
     requires ahead { is_ahead rest.now aim.now ≡ true }
     requires one { list_any is_slash aim.now ≡ false }

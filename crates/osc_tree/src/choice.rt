@@ -1,6 +1,7 @@
 // Patterns that are plain but for one choice of plain texts: each text makes one address.
 ghost use Rattle.osc_pattern.specs.declared.limits.TheConstants.{MAX_ADDRESS};
-ghost use Rattle.std.specs.Prelude.{◌≡◌, ◌≤◌, ◌+◌, ◌++◌, ◌||◌, [], true, position, IfSome, Some, length};
+ghost use Rattle.std.specs.Prelude.{◌≡◌, ◌≤◌, ◌+◌, ◌++◌, ◌||◌, [], true, position, IfSome, Some};
+ghost use Rattle.std.specs.Prelude.{length};
 ghost use Rattle.std.specs.Prelude.{map, filter, take, vec_len, vec_capacity};
 ghost use Rattle.std.specs.List.{slice_split};
 ghost use Rattle.std.specs.Option.{option_to_list};
@@ -28,8 +29,8 @@ pub(crate) struct PlainChoice<'a> {
     back: &'a [u8],
 }
 
-/// The choice at the pattern's first special byte, where all else is plain, the texts are, and the addresses that they make
-/// ascend.
+/// The choice at the pattern's first special byte, where all else is plain, the texts are, and the
+/// addresses that they make ascend.
 pub(crate) fn find_choice<'a>(pattern: &'a [u8], end: usize) -> Option<PlainChoice<'a>>
     requires { position is_special pattern.now ≡ Some end }
     ensures { IfSome result

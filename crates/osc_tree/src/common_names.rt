@@ -12,8 +12,8 @@ ghost use Rattle.osc_tree.specs.Walking.{shared};
 use crate::names::{names_of, shared_names};
 use crate::registered::Registered;
 
-/// How many methods have at least so many names in common with an address, before the first that hasn't. Where
-/// addresses differ much, the first one hasn't.
+/// How many methods have at least so many names in common with an address, before the first that
+/// hasn't. Where addresses differ much, the first one hasn't.
 pub(crate) fn count_sharing(
     methods: &[Registered],
     places: &[u32],

@@ -46,7 +46,8 @@ pub(crate) fn walk_found<L: Ledger>(walk: &Walk<'_>, ids: &mut Vec<u32>, steps: 
     }
 }
 
-/// How many bytes the names take up to the last part that isn't plain. With these names no other method matches.
+/// How many bytes the names take up to the last part that isn't plain. With these names no other
+/// method matches.
 fn find_past(names: &[u8], wild: u32, parts: u32) -> Option<usize>
     ensures bound { IfSome result (λ at. at ≤ length names.now) }
     ensures cut { IfSome result (λ at. slice_split is_slash (drop at names.now)
@@ -59,8 +60,9 @@ fn find_past(names: &[u8], wild: u32, parts: u32) -> Option<usize>
     names_at(names, wild as usize)
 }
 
-/// Tries the method at this place, and tells where to go on: after all methods below the first node whose part doesn't
-/// match. What the method has in common with the one before it isn't matched again.
+/// Tries the method at this place, and tells where to go on: after all methods below the first node
+/// whose part doesn't match. What the method has in common with the one before it isn't matched
+/// again.
 #[inline(always)]
 fn visit<L: Ledger>(
     walk: &Walk<'_>,
@@ -100,8 +102,8 @@ fn visit<L: Ledger>(
     go_on(walk, at, &tried, method.id, pace, ids)
 }
 
-/// Adds the id of the method that was tried, if it matches, and where only plain parts are left, that of the method that
-/// they make with its names. Tells where to go on.
+/// Adds the id of the method that was tried, if it matches, and where only plain parts are left,
+/// that of the method that they make with its names. Tells where to go on.
 #[inline(always)]
 fn go_on(
     walk: &Walk<'_>,
@@ -167,8 +169,9 @@ fn pass_hit(walk: &Walk<'_>, at: usize, tried: &Tried<'_>, pace: Pace) -> (usize
     (next, pace.passed(next.saturating_sub(at + 1)))
 }
 
-/// How many bytes the names take up to the last part that isn't plain, and the plain parts, where those names match and the
-/// method is before the one address that they make. Where the method has no more names, none can.
+/// How many bytes the names take up to the last part that isn't plain, and the plain parts, where
+/// those names match and the method is before the one address that they make. Where the method has
+/// no more names, none can.
 fn find_below<'a>(walk: &Walk<'a>, tried: &Tried<'_>) -> Option<(usize, &'a [u8])>
     requires rest { IfSome walk.now.plain
         (λ plain. slice_split is_slash plain.now
@@ -205,8 +208,8 @@ fn names_before(names: &[u8], count: u32, text: &[u8]) -> Option<usize>
     Some(bytes)
 }
 
-/// Adds the id of the method whose address is the text and the plain parts, if there is one, and passes over all that begin with the
-/// text.
+/// Adds the id of the method whose address is the text and the plain parts, if there is one, and
+/// passes over all that begin with the text.
 fn take_below(
     walk: &Walk<'_>,
     at: usize,

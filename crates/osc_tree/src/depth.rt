@@ -17,8 +17,8 @@ pub(crate) fn count_levels(address: &Address) -> u32
     count_names(names_of(address)) as u32
 }
 
-/// How many names the addresses of the methods that are left have at most, where a removed one is counted as well. A tree
-/// without methods begins anew.
+/// How many names the addresses of the methods that are left have at most, where a removed one is
+/// counted as well. A tree without methods begins anew.
 pub(crate) fn depth_left(methods: &[Registered], depth: u32) -> u32
     requires { IsDepth (methods_of methods.now) depth }
     ensures deep { IsDepth (methods_of methods.now) result }

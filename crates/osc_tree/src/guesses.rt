@@ -4,16 +4,17 @@ use std::alloc::{AllocError, Global};
 /// For one method so many guesses have room, so that few addresses share one.
 const GUESSES: usize = 4;
 
-/// The place of the last method that was added with each hash of an address. A guess is wrong where another address
-/// has the hash, and where a method that stood before it was removed, so whoever uses one looks whether the method is
-/// there.
+/// The place of the last method that was added with each hash of an address. A guess is wrong where
+/// another address has the hash, and where a method that stood before it was removed, so whoever
+/// uses one looks whether the method is there.
 #[derive(Drop)]
 pub(crate) struct Guesses {
     places: Vec<u32>,
 }
 
 impl Guesses {
-    /// Guesses for so many methods, all of them wrong. The `Err` means that there is no memory for them.
+    /// Guesses for so many methods, all of them wrong. The `Err` means that there is no memory for
+    /// them.
     pub(crate) fn open(alloc: Global, methods: u32) -> Result<Guesses, AllocError> {
         Ok(Guesses {
             places: vec![in alloc; u32::MAX; GUESSES * methods as usize]?,
@@ -58,7 +59,8 @@ fn mixed(hash: u64, bytes: u64) -> u64 {
     (hash ^ bytes).wrapping_mul(FACTOR)
 }
 
-/// The last eight bytes, or of fewer than eight the first four and the last four, or of fewer than four all.
+/// The last eight bytes, or of fewer than eight the first four and the last four, or of fewer than
+/// four all.
 fn last_bytes(address: &[u8]) -> u64 {
     if let Some(last) = address.last_chunk::<8>() {
         return u64::from_le_bytes(*last);

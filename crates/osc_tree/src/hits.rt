@@ -24,7 +24,8 @@ impl Model for Hits {
 }
 
 impl Hits {
-    /// An empty list, with room for the ids of `methods` methods. The `Err` means that there is no memory for them.
+    /// An empty list, with room for the ids of `methods` methods. The `Err` means that there is no
+    /// memory for them.
     pub fn open(alloc: Global, methods: u32) -> Result<Hits, AllocError>
         ensures limit { IfOk result (λ hits. hits.limit ≡ methods) }
         ensures empty { IfOk result (λ hits. hits.ids ≡ []) }

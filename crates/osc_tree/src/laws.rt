@@ -10,8 +10,8 @@ ghost use Rattle.osc_tree.specs.Adding.{IsAddable, Refusal, Refuses, is_containe
 ghost use Rattle.osc_tree.specs.Adding.{add_refusal};
 ghost use Rattle.osc_tree.specs.Matching.{matched, matching, matching_ids, IsAscending};
 
-/// The methods that a pattern matches stand in ascending order of their addresses, and are those that match, each
-/// once.
+/// The methods that a pattern matches stand in ascending order of their addresses, and are those
+/// that match, each once.
 pub fn the_matching_methods_ascend()
     ensures exactly { (pattern : List ℕ) (methods : List Method)
         → IsPermutation (matched pattern methods) (matching pattern methods) }
@@ -19,8 +19,8 @@ pub fn the_matching_methods_ascend()
         → IsAscending (matching pattern methods) }
 {}
 
-/// A list of methods with one more, wherever it stands, has the nodes of the others and the prefixes of the new address
-/// that no other address has.
+/// A list of methods with one more, wherever it stands, has the nodes of the others and the
+/// prefixes of the new address that no other address has.
 pub fn an_address_adds_its_new_nodes()
     ensures { (method : Method) (front back : List Method)
         → nodes (front ++ method ∷ back)
@@ -37,7 +37,8 @@ pub fn an_added_method_is_lawful()
         }) }
 {}
 
-/// An address is refused by the first of the five lines that applies, and by none where it can be added.
+/// An address is refused by the first of the five lines that applies, and by none where it can be
+/// added.
 pub fn an_address_is_refused_by_the_first_line()
     ensures refused { (tree : Registry) (address : List ℕ) (refusal : Refusal)
         → length tree.methods ≤ tree.method_limit →
@@ -46,7 +47,8 @@ pub fn an_address_is_refused_by_the_first_line()
         (add_refusal tree address ≡ None) ↔ IsAddable tree address }
 {}
 
-/// Methods in the order of their bytes and not of their names; a node that two addresses share; a container.
+/// Methods in the order of their bytes and not of their names; a node that two addresses share; a
+/// container.
 pub fn examples()
     ensures bytes { matching_ids (codes "/*/x")
         (record { id = 0; address = codes "/a/x" } ∷ record { id = 1; address = codes "/a-b/x" }

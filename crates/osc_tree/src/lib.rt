@@ -1,5 +1,5 @@
-//! The registered methods, by their addresses, and those that a pattern matches (OSC 1.0, "OSC Message Dispatching and
-//! Pattern Matching").
+//! The registered methods, by their addresses, and those that a pattern matches (OSC 1.0, "OSC
+//! Message Dispatching and Pattern Matching").
 #![tactic(auto)]
 
 mod admission;

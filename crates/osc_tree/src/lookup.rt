@@ -74,7 +74,8 @@ pub(crate) fn id_there(
     Some(methods[places[at] as usize].id)
 }
 
-/// The id of the method at a proper prefix of the address, whose neighbours in order stand around a place.
+/// The id of the method at a proper prefix of the address, whose neighbours in order stand around a
+/// place.
 pub(crate) fn id_above(
     methods: &[Registered],
     places: &[u32],
@@ -114,8 +115,8 @@ fn id_before(
     id_beside(methods, places, at, &address[..end])
 }
 
-/// The id of the method at the address. There is none where a neighbour of the place lies below it, and then none is
-/// searched for.
+/// The id of the method at the address. There is none where a neighbour of the place lies below it,
+/// and then none is searched for.
 fn id_beside(methods: &[Registered], places: &[u32], at: usize, address: &[u8]) -> Option<u32>
     requires list { IsMethodList (methods_of methods.now) }
     requires order { IsOrder methods.now places.now }
@@ -139,8 +140,9 @@ fn lies_below(methods: &[Registered], places: &[u32], at: usize, address: &[u8])
     at < places.len() && is_above(address, methods[places[at] as usize].address.bytes())
 }
 
-/// Whether a method lies below the address that the search came to this place for. Those that do begin with it and a
-/// slash, and others may stand between. Where the method there doesn't begin with the address, none does.
+/// Whether a method lies below the address that the search came to this place for. Those that do
+/// begin with it and a slash, and others may stand between. Where the method there doesn't begin
+/// with the address, none does.
 pub(crate) fn has_below(methods: &[Registered], places: &[u32], at: usize, address: &[u8]) -> bool
     requires order { IsOrder methods.now places.now }
     requires searched { IsSearched address.now (methods_at methods.now places.now) at at }
@@ -173,8 +175,8 @@ fn has_below_slash(methods: &[Registered], places: &[u32], address: &[u8]) -> bo
     at < places.len() && is_above(address, methods[places[at] as usize].address.bytes())
 }
 
-/// The method with the id. It is first looked for at the place of that number, where ids that count the methods added
-/// stand until one is removed.
+/// The method with the id. It is first looked for at the place of that number, where ids that count
+/// the methods added stand until one is removed.
 pub(crate) fn with_id(methods: &[Registered], id: u32) -> Option<&Registered>
     requires { IsMethodList (methods_of methods.now) }
     ensures { option_copied result ≡ find (λ method. nat_eq method.id id) methods.now }

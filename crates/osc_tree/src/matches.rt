@@ -2,7 +2,8 @@
 ghost use Rattle.osc_pattern.specs.declared.limits.TheConstants.{MAX_NAMES};
 ghost use Rattle.std.specs.Prelude.{◌≡◌, ◌≤◌, ◌<◌, ◌+◌, []};
 ghost use Rattle.std.specs.Prelude.{None, length, drop, filter};
-ghost use Rattle.std.specs.Prelude.{map, position, All, vec_len, vec_capacity, MatchBool, IfSome, Some, false};
+ghost use Rattle.std.specs.Prelude.{map, position, All, vec_len, vec_capacity, MatchBool, IfSome};
+ghost use Rattle.std.specs.Prelude.{Some, false};
 ghost use Rattle.std.specs.List.{list_any, slice_split};
 ghost use Rattle.osc_pattern.specs.Items.{is_slash};
 ghost use Rattle.osc_pattern.specs.Methods.{IsMethodList};
@@ -28,16 +29,16 @@ use crate::walk::Walk;
 use osc_pattern::{Pattern, Steps};
 use std::sync::ledger::Ledger;
 
-/// What a tree keeps so that less is searched: guesses of where methods stand, and a number of names
-/// that no address exceeds.
+/// What a tree keeps so that less is searched: guesses of where methods stand, and a number of
+/// names that no address exceeds.
 #[derive(Clone, Copy)]
 pub(crate) struct Hints<'a> {
     pub(crate) guesses: &'a Guesses,
     pub(crate) depth: u32,
 }
 
-/// What is found of a pattern before its walk: how many parts it has, and the whole names that all methods which are
-/// walked begin with.
+/// What is found of a pattern before its walk: how many parts it has, and the whole names that all
+/// methods which are walked begin with.
 #[derive(Clone, Copy)]
 struct Outline {
     parts: u32,
@@ -46,8 +47,8 @@ struct Outline {
 
 /// Fills the list with the ids of the methods that the pattern matches, in ascending order of the
 /// address. A pattern without special bytes is looked up; else only the methods that begin with its
-/// literal front are tried. Where a star is all that follows the front, no name is matched. A pattern
-/// with more parts than any method's address has names matches none.
+/// literal front are tried. Where a star is all that follows the front, no name is matched. A
+/// pattern with more parts than any method's address has names matches none.
 #[inline(always)]
 pub(crate) fn find_ids<L: Ledger>(
     methods: &[Registered],
@@ -124,8 +125,8 @@ fn look_up<L: Ledger>(
     }
 }
 
-/// Adds the ids of the methods that a pattern matches which is plain but for one choice of plain texts, and answers whether
-/// it is. Each text makes one address.
+/// Adds the ids of the methods that a pattern matches which is plain but for one choice of plain
+/// texts, and answers whether it is. Each text makes one address.
 fn add_choice(
     methods: &[Registered],
     places: &[u32],
@@ -152,8 +153,8 @@ fn add_choice(
     true
 }
 
-/// Adds the id of the method whose address the pattern spells, where it stands where it is guessed to, and answers
-/// whether it does. The pattern matches no other.
+/// Adds the id of the method whose address the pattern spells, where it stands where it is guessed
+/// to, and answers whether it does. The pattern matches no other.
 fn add_guessed(
     methods: &[Registered],
     guesses: &Guesses,
@@ -178,7 +179,8 @@ fn add_guessed(
     true
 }
 
-/// Adds the id of the method whose address the pattern spells, if there is one. It matches no other.
+/// Adds the id of the method whose address the pattern spells, if there is one. It matches no
+/// other.
 fn add_spelled(methods: &[Registered], places: &[u32], pattern: &Pattern<'_>, ids: &mut Vec<u32>)
     requires list { IsMethodList (methods_of methods.now) }
     requires order { IsOrder methods.now places.now }
@@ -246,8 +248,9 @@ fn walk_near<L: Ledger>(
     }
 }
 
-/// The same, for a pattern whose parts are read once. It alone needs their room, some 300 kilobytes, and so is not
-/// put into its caller: a function touches each page of its room when it is entered.
+/// The same, for a pattern whose parts are read once. It alone needs their room, some 300
+/// kilobytes, and so is not put into its caller: a function touches each page of its room when it
+/// is entered.
 #[inline(never)]
 fn walk_read<L: Ledger>(
     methods: &[Registered],

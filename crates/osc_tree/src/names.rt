@@ -102,7 +102,8 @@ pub(crate) fn shared_names(names: &[u8], others: &[u8]) -> usize
     }
 }
 
-/// The whole names that names begin with, and so does each text that begins with all of their bytes.
+/// The whole names that names begin with, and so does each text that begins with all of their
+/// bytes.
 pub(crate) fn whole_names(names: &[u8]) -> Front
     ensures { (rest more : List ℕ) → IsBegun result.names result.bytes
         (names.now ++ rest) (names.now ++ more) }
@@ -119,7 +120,8 @@ pub(crate) fn whole_names(names: &[u8]) -> Front
     front
 }
 
-/// The names that both begin with, of which some are known. Neither has all of its names in common with the other.
+/// The names that both begin with, of which some are known. Neither has all of its names in common
+/// with the other.
 pub(crate) fn shared_front(known: Front, names: &[u8], others: &[u8]) -> Front
     requires known { IsBegun known.names known.bytes names.now others.now }
     requires first { shared (slice_split is_slash names.now) (slice_split is_slash others.now)

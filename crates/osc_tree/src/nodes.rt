@@ -13,8 +13,8 @@ use crate::names::{count_names, names_of, shared_names};
 use crate::registered::Registered;
 use osc_pattern::Address;
 
-/// How many prefixes by parts of the address no method's address has. No method has more names in common with it than
-/// one of the two next to the place that the search for it came to.
+/// How many prefixes by parts of the address no method's address has. No method has more names in
+/// common with it than one of the two next to the place that the search for it came to.
 pub(crate) fn new_nodes(methods: &[Registered], places: &[u32], at: usize, address: &Address) -> u32
     requires list { IsMethodList (methods_of methods.now) }
     requires order { IsOrder methods.now places.now }
@@ -40,7 +40,8 @@ fn shared_before(methods: &[Registered], places: &[u32], at: usize, names: &[u8]
     shared_at(methods, places, at - 1, names)
 }
 
-/// How many of the names the method at a place has, from the first on; none where there is no method.
+/// How many of the names the method at a place has, from the first on; none where there is no
+/// method.
 fn shared_at(methods: &[Registered], places: &[u32], at: usize, names: &[u8]) -> usize
     requires { All (λ place. place < length methods.now) places.now }
     ensures count { result

@@ -6,7 +6,8 @@ ghost use Rattle.osc_tree.specs.Walking.{AreParts, AreReadyParts};
 
 use osc_pattern::{MAX_NAMES, Part, Pattern, ReadyPart};
 
-/// The parts of a pattern that has no more of them than an address has names. The places after them are empty.
+/// The parts of a pattern that has no more of them than an address has names. The places after them
+/// are empty.
 pub(crate) fn find_parts<'a>(pattern: &Pattern<'a>, count: u32) -> [Part<'a>; MAX_NAMES]
     requires count { count ≡ length (parts_of pattern.now) }
     requires few { count ≤ MAX_NAMES }

@@ -8,8 +8,8 @@ ghost use Rattle.osc_tree.specs.Views.{methods_of, methods_at};
 use crate::registered::Registered;
 use crate::search::{count_before_from, count_before_near};
 
-/// The places of the methods that begin with the text, which stand together. They aren't before the text, and are
-/// before it with a byte after it that is above all of an address.
+/// The places of the methods that begin with the text, which stand together. They aren't before the
+/// text, and are before it with a byte after it that is above all of an address.
 pub(crate) fn beginning_with<'a>(
     methods: &[Registered],
     places: &'a [u32],
@@ -27,8 +27,8 @@ pub(crate) fn beginning_with<'a>(
     &places[first..end]
 }
 
-/// How many methods are before the text with the byte after it, where so many are before the text. Where none is, mostly all begin with
-/// it.
+/// How many methods are before the text with the byte after it, where so many are before the text.
+/// Where none is, mostly all begin with it.
 fn count_begun(methods: &[Registered], places: &[u32], first: usize, text: &[u8]) -> usize
     requires within { All (λ place. place < length methods.now) places.now }
     requires ascending { IsAscending (methods_at methods.now places.now) }

@@ -8,14 +8,16 @@ ghost use Rattle.osc_tree.specs.Views.{method_at, methods_at};
 
 use crate::registered::Registered;
 
-/// An end of the range where a search goes on, and with how many bytes of the text the method just outside it begins.
+/// An end of the range where a search goes on, and with how many bytes of the text the method just
+/// outside it begins.
 #[derive(Clone, Copy)]
 struct End {
     place: usize,
     begun: usize,
 }
 
-/// Whether an address is before a text with its tail, and with how many bytes of the text it begins.
+/// Whether an address is before a text with its tail, and with how many bytes of the text it
+/// begins.
 #[derive(Clone, Copy)]
 struct Standing {
     is_before: bool,
@@ -51,7 +53,8 @@ pub(crate) fn count_before_both(
     count_between(methods, places, first, last, text, tail)
 }
 
-/// The same, where all below a place are known to be. It looks twice as far ahead each time, since few more are mostly.
+/// The same, where all below a place are known to be. It looks twice as far ahead each time, since
+/// few more are mostly.
 pub(crate) fn count_before_from(
     methods: &[Registered],
     places: &[u32],
@@ -93,7 +96,8 @@ pub(crate) fn count_before_from(
     count_between(methods, places, low, last, text, tail)
 }
 
-/// Up to so many methods, a search of all of them takes fewer steps than one that looks further each time.
+/// Up to so many methods, a search of all of them takes fewer steps than one that looks further
+/// each time.
 const FEW: usize = 2048;
 
 /// The same, where as many may follow as not.
@@ -180,8 +184,8 @@ fn is_before_at(methods: &[Registered], places: &[u32], at: usize, text: &[u8], 
     at < places.len() && compare(methods, places[at], text, tail, 0).is_before
 }
 
-/// The same, where all below one place are known to be, and none from another on. It halves what is between the two,
-/// and compares no byte with which the methods at both ends begin.
+/// The same, where all below one place are known to be, and none from another on. It halves what is
+/// between the two, and compares no byte with which the methods at both ends begin.
 fn count_between(
     methods: &[Registered],
     places: &[u32],
@@ -221,8 +225,8 @@ fn count_between(
     low.place
 }
 
-/// How the address of the method at a place stands to the text with its tail, in the order of their bytes, where it is
-/// known to begin with some bytes of the text.
+/// How the address of the method at a place stands to the text with its tail, in the order of their
+/// bytes, where it is known to begin with some bytes of the text.
 fn compare(methods: &[Registered], place: u32, text: &[u8], tail: &[u8], known: usize) -> Standing
     requires place { place < length methods.now }
     requires known { begins_with (take known text.now) (method_at methods.now place) ≡ true }

@@ -1,5 +1,5 @@
-//! The tree of methods: a list in the order of adding, and their places in the order of their addresses, in room that
-//! is reserved at opening.
+//! The tree of methods: a list in the order of adding, and their places in the order of their
+//! addresses, in room that is reserved at opening.
 ghost use Rattle.std.specs.Prelude.{◌≡◌, ◌≤◌, ◌+◌, ◌↔◌, ℕ, List, [], ◌∷◌, ◌++◌, Some, None, IsOk};
 ghost use Rattle.std.specs.Prelude.{IsErr, IfOk, IfErr, IfSome, IsNone, OnOk, OnErr};
 ghost use Rattle.std.specs.Option.{option_map, option_copied};
@@ -27,11 +27,12 @@ use std::alloc::{AllocError, Global};
 use std::marker::Model;
 use std::sync::ledger::Ledger;
 
-/// The methods, each with its id and its address. A contract sees their list in the order of adding, and how many
-/// methods and nodes there may be. A node is a prefix by parts of a method's address, the whole address among them.
+/// The methods, each with its id and its address. A contract sees their list in the order of
+/// adding, and how many methods and nodes there may be. A node is a prefix by parts of a method's
+/// address, the whole address among them.
 ///
-/// The list is lawful: ids and addresses differ, and no method lies below another (OSC 1.0, "OSC Address Spaces and
-/// OSC Addresses"). No call but `open` takes memory.
+/// The list is lawful: ids and addresses differ, and no method lies below another (OSC 1.0, "OSC
+/// Address Spaces and OSC Addresses"). No call but `open` takes memory.
 pub struct Tree {
     methods: Vec<Registered>,
     places: Vec<u32>,
@@ -77,8 +78,8 @@ impl Model for Tree {
 }
 
 impl Tree {
-    /// An empty tree, with room for `methods` methods, which may have `nodes` nodes. The `Err` means that there is no
-    /// memory for them.
+    /// An empty tree, with room for `methods` methods, which may have `nodes` nodes. The `Err`
+    /// means that there is no memory for them.
     pub fn open(alloc: Global, methods: u32, nodes: u32) -> Result<Tree, AllocError>
         ensures empty { IfOk result (λ tree. tree.methods ≡ []) }
         ensures method_limit { IfOk result (λ tree. tree.method_limit ≡ methods) }
@@ -161,10 +162,11 @@ impl Tree {
 
     /// Fills `hits` with the ids of the methods that the pattern matches.
     ///
-    /// Steps are counted as in `Pattern::matches_part`. For each node of the methods they are at most 64 for each byte
-    /// of the part at the node's depth and for its end, and none for a node deeper than the pattern. A part that is a
-    /// star alone takes none, nor does a pattern that is plain but for a star at its end. To find and to read the parts,
-    /// once for all methods, and to search takes none.
+    /// Steps are counted as in `Pattern::matches_part`. For each node of the methods they are at
+    /// most 64 for each byte of the part at the node's depth and for its end, and none for a node
+    /// deeper than the pattern. A part that is a star alone takes none, nor does a pattern that is
+    /// plain but for a star at its end. To find and to read the parts, once for all methods, and to
+    /// search takes none.
     #[inline(always)]
     pub fn matches<L: Ledger>(&self, pattern: &Pattern<'_>, hits: &mut Hits, steps: &mut Steps<L>)
         requires { self.now.method_limit ≤ hits.old.limit }

@@ -1,11 +1,13 @@
-// What a walk along the methods knows: what doesn't change, the method that it tries, and how it went so far.
+// What a walk along the methods knows: what doesn't change, the method that it tries, and how it
+// went so far.
 
 use crate::names::Front;
 use crate::registered::Registered;
 use osc_pattern::{MAX_NAMES, Part, Pattern};
 
-/// What a walk doesn't change: the methods and the places that it goes along, the names that all of these begin with, the parts of
-/// the pattern, and the plain ones after the last that has a special byte.
+/// What a walk doesn't change: the methods and the places that it goes along, the names that all of
+/// these begin with, the parts of the pattern, and the plain ones after the last that has a special
+/// byte.
 #[derive(Clone, Copy)]
 pub(crate) struct Walk<'a> {
     pub(crate) methods: &'a [Registered],
@@ -18,8 +20,8 @@ pub(crate) struct Walk<'a> {
     pub(crate) plain: Option<&'a [u8]>,
 }
 
-/// How a walk went so far: how many methods were tried in vain since it last went on by a search, and how many it
-/// passed over when it last went past a hit, to a text, and over a node.
+/// How a walk went so far: how many methods were tried in vain since it last went on by a search,
+/// and how many it passed over when it last went past a hit, to a text, and over a node.
 #[derive(Clone, Copy)]
 pub(crate) struct Pace {
     pub(crate) idle: u32,
@@ -87,8 +89,9 @@ impl Pace {
     }
 }
 
-/// A method that was tried: its address and its names, how many of these match, whether they are all names and all parts,
-/// whether no more than one name stands after them, and whether none does where parts are left.
+/// A method that was tried: its address and its names, how many of these match, whether they are
+/// all names and all parts, whether no more than one name stands after them, and whether none does
+/// where parts are left.
 #[derive(Clone, Copy)]
 pub(crate) struct Tried<'a> {
     pub(crate) address: &'a [u8],

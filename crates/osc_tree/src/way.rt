@@ -13,8 +13,8 @@ use crate::names::{first_name, names_at};
 use crate::walk::{Tried, Walk};
 use osc_pattern::Pattern;
 
-/// Where a walk goes on by a search: how many bytes of the names stay before the one that doesn't match, how many of that one, and a
-/// text after them. An aim is a text that stands in the pattern.
+/// Where a walk goes on by a search: how many bytes of the names stay before the one that doesn't
+/// match, how many of that one, and a text after them. An aim is a text that stands in the pattern.
 #[derive(Clone, Copy)]
 pub(crate) struct Way<'a> {
     pub(crate) bytes: usize,
@@ -23,13 +23,15 @@ pub(crate) struct Way<'a> {
     pub(crate) is_aim: bool,
 }
 
-/// Whether to look for where a walk goes on, after so many methods without: each time twice as rarely.
+/// Whether to look for where a walk goes on, after so many methods without: each time twice as
+/// rarely.
 fn looks(idle: u32) -> bool {
     idle & idle.saturating_sub(1) == 0
 }
 
-/// Where to go on by a search: at what an aim says, if one is looked for and found, else after all that begin with the
-/// name that doesn't match, if more follow it. Nowhere, where the method has no more names.
+/// Where to go on by a search: at what an aim says, if one is looked for and found, else after all
+/// that begin with the name that doesn't match, if more follow it. Nowhere, where the method has no
+/// more names.
 pub(crate) fn find_way<'a>(walk: &Walk<'a>, tried: &Tried<'_>, idle: u32) -> Option<Way<'a>>
     requires parts { walk.now.parts ≡ length (parts_of walk.now.pattern.now) }
     requires low { All (λ byte. byte < 127) tried.now.names.now }
@@ -70,7 +72,8 @@ pub(crate) fn find_way<'a>(walk: &Walk<'a>, tried: &Tried<'_>, idle: u32) -> Opt
     })
 }
 
-/// What follows the names of a node that doesn't match: how many bytes stand before its last name, and how many that has.
+/// What follows the names of a node that doesn't match: how many bytes stand before its last name,
+/// and how many that has.
 fn find_over(
     pattern: &Pattern<'_>,
     parts: u32,
@@ -95,8 +98,8 @@ fn find_over(
     Some((at, name.len()))
 }
 
-/// Where the walk goes on after names of which so many match: how many bytes those take, how many more stay, and a text
-/// after them.
+/// Where the walk goes on after names of which so many match: how many bytes those take, how many
+/// more stay, and a text after them.
 #[inline(never)]
 fn find_onward<'a>(
     pattern: &Pattern<'a>,

@@ -10,4 +10,5 @@ returns c = λ none.
     let lanes = c.args.lanes in
     let tops = tops_compared w8 ltb (replicate 16 126) lanes ∙ zip2_splat_left ltb 126 16 lanes c.fits-lanes.0 in
     mask_none (ltb 126) lanes
-    (sym (ap (λ ms. mask_l ms % 2 ^ 64) tops ∙ mask_l-mod (map (ltb 126) lanes) 64 (omega (arith, length-map lanes (ltb 126), c.fits-lanes.0))) ∙ empty_mask _ none)
+    (sym (ap (λ ms. mask_l ms % 2 ^ 64) tops ∙ mask_l-mod (map (ltb 126) lanes) 64 (omega (arith, length-map lanes (ltb 126), c.fits-lanes.0)))
+    ∙ empty_mask _ none)

@@ -46,7 +46,8 @@ loop-rest-preserved g c =
           ap (λ p. passes test p name) w.next-is
           ∙ elim w.else-has.branch [
             | else-has-via-then-has+else-has-within u ↦
-                other_byte (own byte) test (before test) here after (as_is c.args.bytes.now c.args.within byte u.has-then-has.result false u.has-then-has.ensures
+                other_byte (own byte) test (before test) here after
+                (as_is c.args.bytes.now c.args.within byte u.has-then-has.result false u.has-then-has.ensures
                 u.if-has-within.false)
             | else-has-via-else-has u ↦ not_reached (before test) here _ (sym c.has.ensures ∙ u.if-has.false)
           ]

@@ -38,7 +38,8 @@ returns-then-byte-eq125-clause-value g c =
     let places = is_place_of c.loop-rest.places in
     let next = is_place_of c.loop-rest.next in (
       front,
-      choice_found c.args.texts.now front rest others (get_or rest 0 0) so_far.1 (first_and_rest rest 0 c.in-len1-up.len_at_least) c.if-byte-eq125.true so_far.2,
+      choice_found c.args.texts.now front rest others (get_or rest 0 0) so_far.1 (first_and_rest rest 0 c.in-len1-up.len_at_least)
+          c.if-byte-eq125.true so_far.2,
       λ name test short marked.
           choice_end test places all [] name (passes test c.loop-rest.next name) (passes test c.join.new.self name) _ refl
           (any_rest-joined test places next (is_place_of c.join.new.self) c.join.ensures 0 name) (so_far.3 name [] test short marked)
@@ -60,7 +61,8 @@ loop-rest-preserved g c =
       λ name others test short marked.
           c.try_byte.ensures.value name others test short marked
           ∙ so_far.3 name (byte ∷ others) test short marked
-          ∙ ap (λ xs. passes (λ left. list_any test (flat_map (after_text left) (slice_split is_comma xs))) c.args.reached.now name) (moved_on front byte others),
+          ∙ ap (λ xs. passes (λ left. list_any test (flat_map (after_text left) (slice_split is_comma xs))) c.args.reached.now name)
+          (moved_on front byte others),
       omega (arith, c.try_byte.ensures.counted),
       omega (arith, size, c.try_byte.ensures.counted),
     )

@@ -1,4 +1,4 @@
-use Rattle.std.proofs.Common.{◌≡◌, ◌+◌, Some, List, ℕ, drop, sym, ap, subst, ◌∙◌, Contains}
+use Rattle.std.proofs.Common.{◌+◌, List, ℕ, sym, ap, subst, ◌∙◌, Contains}
 use Rattle.std.specs.List.{slice_split}
 use Rattle.std.proofs.lemmas.List.{take_rest}
 use Rattle.osc_pattern.specs.Items.{is_choice_end, is_comma}

@@ -1,5 +1,5 @@
 use Rattle.std.proofs.Common.{sym, ◌∙◌}
-use Rattle.osc_tree.proofs.Onward.{none_taken, special_aims, plain_aims, none_kept}
+use Rattle.osc_tree.proofs.Onward.{none_taken, special_aims, plain_aims}
 use Rattle.osc_tree.proofs.aim.find_aim.Goals as goal
 
 pub returns-in_default-clause-aim : goal.returns-in_default-clause-aim

@@ -1,4 +1,4 @@
-use Rattle.std.proofs.Common.{◌≤◌, ◌<◌, length, sym, ◌∙◌, ap, nat_lt, arith, rules}
+use Rattle.std.proofs.Common.{◌≤◌, ◌<◌, length, sym, ◌∙◌, ap, nat_lt, rules}
 use Rattle.osc_tree.proofs.Onward.{other_end, short_end, long_end}
 use Rattle.osc_tree.proofs.aim.is_within.Goals as goal
 

@@ -1,4 +1,4 @@
-use Rattle.std.proofs.Common.{◌≡◌, ◌∷◌, [], All, false, sym, subst, ◌∙◌, refl, arith, rules}
+use Rattle.std.proofs.Common.{◌≡◌, ◌∷◌, [], All, false, subst, refl, rules}
 use Rattle.std.specs.List.{list_any, slice_split}
 use Rattle.std.proofs.lemmas.List.Elements.{All-tail}
 use Rattle.osc_pattern.specs.Items.{is_comma, is_slash}

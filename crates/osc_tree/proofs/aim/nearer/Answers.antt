@@ -1,6 +1,5 @@
-use Rattle.std.proofs.Common.{sym, ◌∙◌, not, ◌≡◌, true, false, Bool, refl, rules}
+use Rattle.std.proofs.Common.{sym, ◌∙◌, rules}
 use Rattle.osc_tree.proofs.Onward.{none_between, lower_self}
-use Rattle.osc_tree.proofs.Narrowed.{is_so, is_not}
 use Rattle.osc_tree.proofs.Ranges.{lower_order}
 use Rattle.osc_tree.proofs.aim.nearer.Goals as goal
 

@@ -1,4 +1,4 @@
-use Rattle.std.proofs.Common.{ap, sym, ◌+◌, ◌∙◌, arith}
+use Rattle.std.proofs.Common.{ap, sym, ◌+◌, ◌∙◌}
 use Rattle.std.proofs.lemmas.List.{take_rest}
 use Rattle.osc_pattern.specs.Items.{is_choice_end}
 use Rattle.osc_pattern.specs.Reading.{cut_at}

@@ -1,4 +1,4 @@
-use Rattle.std.proofs.Common.{◌≡◌, ℕ, suc, ◌+◌, ◌<◌, ◌∷◌, [], length, take, get_or, sym, ap, subst, refl, ◌∙◌, one-add, arith}
+use Rattle.std.proofs.Common.{◌≡◌, ◌+◌, ◌∷◌, length, take, get_or, sym, ap, refl, ◌∙◌, one-add, arith}
 use Rattle.std.specs.List.{slice_split}
 use Rattle.osc_pattern.specs.Items.{is_slash}
 use Rattle.osc_pattern.specs.Patterns.{parts_of}

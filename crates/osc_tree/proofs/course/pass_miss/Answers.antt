@@ -1,4 +1,4 @@
-use Rattle.std.proofs.Common.{◌≡◌, ℕ, suc, ◌+◌, ◌<◌, ◌++◌, ◌∷◌, [], ◌&&◌, ◌==◌, false, not, nat_le, length, take, drop, get_or, sym, ap, subst, ◌∙◌}
+use Rattle.std.proofs.Common.{◌≡◌, ℕ, suc, ◌+◌, ◌++◌, ◌∷◌, ◌&&◌, ◌==◌, false, not, nat_le, length, take, drop, get_or, sym, ap, subst, ◌∙◌}
 use Rattle.std.proofs.Common.{add-one, arith}
 use Rattle.std.specs.List.{slice_split, position_or_len}
 use Rattle.osc_pattern.specs.Items.{is_slash}

@@ -1,4 +1,4 @@
-use Rattle.std.proofs.Common.{◌≡◌, ℕ, ◌+◌, ◌<◌, ◌++◌, ◌∷◌, [], length, sym, ap, subst, ◌∙◌, arith}
+use Rattle.std.proofs.Common.{ℕ, ◌+◌, ◌++◌, ◌∷◌, [], sym, subst, arith}
 use Rattle.osc_tree.specs.Order.{IsSearched}
 use Rattle.osc_tree.specs.Views.{method_at, methods_at}
 use Rattle.osc_tree.specs.Walking.{IsWalked}

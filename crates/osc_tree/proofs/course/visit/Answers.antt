@@ -1,10 +1,10 @@
-use Rattle.std.proofs.Common.{◌≡◌, ℕ, suc, ◌<◌, ◌+◌, ◌∷◌, [], length, take, drop, get_or, sym, ap, ◌∙◌, arith}
+use Rattle.std.proofs.Common.{◌≡◌, ℕ, suc, ◌<◌, ◌∷◌, [], length, drop, get_or, sym, ap, ◌∙◌, arith}
 use Rattle.std.specs.List.{slice_split}
 use Rattle.osc_pattern.specs.Items.{is_slash}
 use Rattle.osc_pattern.specs.Methods.{Method}
 use Rattle.osc_pattern.specs.Patterns.{parts_of}
 use Rattle.osc_tree.specs.Views.{method_at, methods_at}
-use Rattle.osc_tree.specs.Walking.{spent, known_at, most_steps}
+use Rattle.osc_tree.specs.Walking.{spent, known_at}
 use Rattle.osc_tree.proofs.Advances.{slash_names}
 use Rattle.osc_tree.proofs.Beginnings.{address_low}
 use Rattle.osc_tree.proofs.Charges.{charged, further}

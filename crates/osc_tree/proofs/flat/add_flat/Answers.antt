@@ -1,11 +1,10 @@
-use Rattle.std.proofs.Common.{◌≡◌, ℕ, ◌≤◌, ◌++◌, ◌∷◌, [], true, false, length, take, drop, map, filter, All, sym, ap, subst, ◌∙◌, arith}
-use Rattle.std.specs.List.{list_any, before_first}
+use Rattle.std.proofs.Common.{◌≡◌, ℕ, ◌≤◌, ◌++◌, ◌∷◌, [], true, length, take, drop, map, filter, All, sym, ap, subst, ◌∙◌, arith}
+use Rattle.std.specs.List.{list_any}
 use Rattle.std.proofs.lemmas.List.{length-take-le, take-append-drop, take_rest}
 use Rattle.osc_pattern.specs.Methods.{Method}
 use Rattle.osc_pattern.specs.Patterns.{begins_with_slash, is_special}
-use Rattle.osc_tree.specs.Matching.{matching_ids}
 use Rattle.osc_tree.specs.Order.{is_flat}
-use Rattle.osc_tree.specs.Views.{methods_of, methods_at}
+use Rattle.osc_tree.specs.Views.{methods_at}
 use Rattle.osc_tree.proofs.Apart.{near_sorted}
 use Rattle.osc_tree.proofs.Flats.{begun_long, flat_ids, front_slash}
 use Rattle.osc_tree.proofs.Lists.{position-some}

@@ -1,4 +1,4 @@
-use Rattle.std.proofs.Common.{length, arith}
+use Rattle.std.proofs.Common.{arith}
 use Rattle.osc_tree.specs.Views.{methods_at}
 use Rattle.osc_tree.proofs.Flats.{flat_few}
 use Rattle.osc_tree.proofs.InOrder.{methods_at-length}

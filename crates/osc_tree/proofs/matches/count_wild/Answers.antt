@@ -1,6 +1,5 @@
-use Rattle.std.proofs.Common.{◌≡◌, ◌≤◌, ◌-◌, length, arith, sym, ◌∙◌}
-use Rattle.osc_pattern.specs.Patterns.{parts_of}
-use Rattle.osc_tree.proofs.Advances.{plain_end, plain_more, none_of}
+use Rattle.std.proofs.Common.{arith, sym, ◌∙◌}
+use Rattle.osc_tree.proofs.Advances.{plain_more, none_of}
 use Rattle.osc_tree.proofs.matches.count_wild.Goals as goal
 
 pub loop-wild-preserved : goal.loop-wild-preserved

@@ -1,4 +1,4 @@
-use Rattle.std.proofs.Common.{◌≡◌, length, arith, rules, ◌∙◌, sym}
+use Rattle.std.proofs.Common.{◌≡◌, length, rules, ◌∙◌, sym}
 use Rattle.osc_tree.proofs.Advances.{none_near}
 use Rattle.osc_tree.proofs.matches.walk_near.Goals as goal
 

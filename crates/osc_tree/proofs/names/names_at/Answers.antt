@@ -1,4 +1,4 @@
-use Rattle.std.proofs.Common.{◌≡◌, ◌<◌, ◌-◌, ◌+◌, drop, length, sym, ◌∙◌, ap, subst, arith, add-one, suc, zero}
+use Rattle.std.proofs.Common.{◌-◌, ◌+◌, drop, sym, ◌∙◌, ap, arith, add-one}
 use Rattle.std.specs.List.{slice_split}
 use Rattle.osc_pattern.specs.Items.{is_slash}
 use Rattle.osc_tree.proofs.Onward.{names_letter, names_slash}

@@ -1,4 +1,4 @@
-use Rattle.std.proofs.Common.{List, ℕ, ◌++◌, ◌∷◌, [], sym, subst}
+use Rattle.std.proofs.Common.{List, ℕ, ◌++◌, ◌∷◌, [], subst}
 use Rattle.std.proofs.lemmas.List.{append-nil}
 use Rattle.osc_pattern.specs.Methods.{Method}
 use Rattle.osc_tree.proofs.InOrder.{methods_at-length, order_ascends}

@@ -1,4 +1,4 @@
-use Rattle.std.proofs.Common.{◌≡◌, ◌+◌, ◌-◌, ◌++◌, true, false, length, get_or, sym, ap, subst, ◌∙◌, add-zero, arith}
+use Rattle.std.proofs.Common.{◌≡◌, ◌+◌, ◌-◌, ◌++◌, true, false, length, get_or, sym, ap, subst, ◌∙◌, arith}
 use Rattle.osc_tree.specs.Order.{is_before, IsSearched}
 use Rattle.osc_tree.specs.Views.{method_at, methods_at}
 use Rattle.osc_tree.proofs.Ranges.{searched_up, searched_down, searched_to}

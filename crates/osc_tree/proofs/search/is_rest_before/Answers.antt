@@ -1,4 +1,4 @@
-use Rattle.std.proofs.Common.{◌≡◌, ◌≤◌, ◌<◌, ◌+◌, ℕ, length, sym, ap, ◌∙◌, append-nil, [], refl, arith}
+use Rattle.std.proofs.Common.{length, sym, ap, ◌∙◌, append-nil, [], refl, arith}
 use Rattle.osc_tree.proofs.Compared.{alike_here, unlike_here, ended_here, none_here, either}
 use Rattle.osc_tree.proofs.Ranges.{lower}
 use Rattle.osc_tree.proofs.search.is_rest_before.Goals as goal

@@ -149,7 +149,8 @@ invariant_of-self c =
           (vec_capacity inside.methods) c.self.invariant.kept out.leaves.first out.leaves.within);
       order = out.left.order;
       room = rw c.leave-place.ensures.capacity c.self.invariant.room;
-      deep = subst (λ (l : List Registered). IsDepth (methods_of l) c.depth_left-self-inside.result) c.deref-7.ensures.value c.depth_left-self-inside.ensures.deep;
+      deep = subst (λ (l : List Registered). IsDepth (methods_of l) c.depth_left-self-inside.result) c.deref-7.ensures.value
+          c.depth_left-self-inside.ensures.deep;
     }
 
 pub returns-clause-read : goal.returns-clause-read
