@@ -1,5 +1,7 @@
 -- What words that are arguments stand for: it fits, and is no longer than the word.
-use Rattle.std.proofs.Common.{◌≡◌, ℕ, zero, suc, ◌+◌, ◌-◌, ◌*◌, ◌/◌, ◌<◌, ◌≤◌, ◌^◌, ◌==◌, ◌&&◌, Bool, true, false, cond, not, nat_le, ℤ, pos, negsuc, FitsSigned, IsTrue, List, [], ◌∷◌, length, Option, Some, None, Result, Ok, Err, IfSome, option_map, option_and_then, refl, sym, ap, ◌∙◌, subst, arith}
+use Rattle.std.proofs.Common.{◌≡◌, ℕ, zero, suc, ◌+◌, ◌-◌, ◌*◌, ◌/◌, ◌<◌, ◌≤◌, ◌^◌, ◌==◌, ◌&&◌, Bool, true, false, cond, not, nat_le, ℤ, pos, negsuc}
+use Rattle.std.proofs.Common.{FitsSigned, IsTrue, List, [], ◌∷◌, length, Option, Some, None, Result, Ok, Err, IfSome, option_map, option_and_then, refl, sym}
+use Rattle.std.proofs.Common.{ap, ◌∙◌, subst, arith}
 use Rattle.std.specs.Int.{w32, w64, from_be_bytes}
 use Rattle.std.specs.Result.{result_ok}
 use Rattle.std.specs.List.{AllByRecursion}
@@ -11,7 +13,8 @@ use Rattle.osc_atoms.specs.declared.limits.TheConstants.{MAX_BYTES}
 use Rattle.osc_atoms.specs.Atoms.{has_no_zero, blob}
 use Rattle.osc_message.specs.Messages.{Argument, integer, float, text, content, long, time, double, symbol, character, rgba, midi, Fits, AllFit}
 use Rattle.osc_score.specs.Scores.{IsOfBytes, word_size, words_size}
-use Rattle.osc_score.specs.ArgumentWords.{natural_read, number_in, is_decimal, below_zero, signed_read, word_read, tag_read, is_plain, unless_zero, escape_read, first_byte, text_within, text_read, bare_read, number_read, value_read, argument_read, arguments_read}
+use Rattle.osc_score.specs.ArgumentWords.{natural_read, number_in, is_decimal, below_zero, signed_read, word_read, tag_read, is_plain, unless_zero, escape_read}
+use Rattle.osc_score.specs.ArgumentWords.{first_byte, text_within, text_read, bare_read, number_read, value_read, argument_read, arguments_read}
 use Rattle.osc_score.proofs.Lengths.{blob_length}
 
 -- it fits, and is no longer than a word of so many bytes
@@ -63,7 +66,8 @@ below_in size bound number some few = go (number == 0) refl where
 signed_in : (bound : ℕ) (word : List ℕ) → 1 ≤ bound → IfSome (signed_read bound word) (IsRange (length word) bound)
 signed_in b [] positive = tt
 signed_in b (first ∷ word) positive =
-    either (IsRange (length (first ∷ word)) b) (first == 45) (option_and_then below_zero (natural_read b word)) (option_map pos (natural_read (b - 1) (first ∷ word)))
+    either (IsRange (length (first ∷ word)) b) (first == 45) (option_and_then below_zero (natural_read b word))
+    (option_map pos (natural_read (b - 1) (first ∷ word)))
     (bound (IsAtMost b) (IsRange (length (first ∷ word)) b) below_zero (λ n few. below_in (length (first ∷ word)) b n (omega arith) few) (natural_read b word)
     (natural_small b word))
     (mapped (IsAtMost (b - 1)) (IsRange (length (first ∷ word)) b) pos
@@ -208,9 +212,11 @@ number_said tag value =
     let of_tag : (f : ℕ → Argument) → ((n : ℕ) → IsWord (length value) 64 n → P (f n)) → IfSome (option_map f (tag_read value)) P =
     λ f each. mapped (IsWord (length value) 64) P f each (tag_read value) (tag_small value) in
     either P (tag == 105) _ _ (mapped (IsRange (length value) (2 ^ 31)) P integer
-    (λ n is. let some = is.some in record { fits = fits_32 n is.within; bytes = tt; short = omega arith }) (signed_read (2 ^ 31) value) (signed_in (2 ^ 31) value (omega arith)))
+    (λ n is. let some = is.some in record { fits = fits_32 n is.within; bytes = tt; short = omega arith }) (signed_read (2 ^ 31) value)
+    (signed_in (2 ^ 31) value (omega arith)))
     (either P (tag == 104) _ _ (mapped (IsRange (length value) (2 ^ 63)) P long
-    (λ n is. let some = is.some in record { fits = fits_64 n is.within; bytes = tt; short = omega arith }) (signed_read (2 ^ 63) value) (signed_in (2 ^ 63) value (omega arith)))
+    (λ n is. let some = is.some in record { fits = fits_64 n is.within; bytes = tt; short = omega arith }) (signed_read (2 ^ 63) value)
+    (signed_in (2 ^ 63) value (omega arith)))
     (either P (tag == 102) _ _ (of_word float (λ n is. let long = is.long in record { fits = is.small; bytes = tt; short = omega arith }))
     (either P (tag == 99) _ _ (of_word character (λ n is. let long = is.long in record { fits = is.small; bytes = tt; short = omega arith }))
     (either P (tag == 114) _ _ (of_word rgba (λ n is. let long = is.long in record { fits = is.small; bytes = tt; short = omega arith }))

@@ -49,7 +49,8 @@ dropped_same : (n : ℕ) (runs : List Run) → n ≡ min (length runs) 16 → dr
 dropped_same n runs is = grind (arith, common_steps)
 
 -- the lines of a batch, and those of the rest
-pub batch_off : (runs front back : List Run) (n : ℕ) (before after whole : List ℕ) → 0 < length runs → n ≡ min (length runs) 16 → front ≡ take n runs → back ≡ drop n runs
+pub batch_off : (runs front back : List Run) (n : ℕ) (before after whole : List ℕ) → 0 < length runs → n ≡ min (length runs) 16 → front ≡ take n runs
+    → back ≡ drop n runs
     → after ≡ before ++ written (run_batch front) → before ++ written (run_batches (length runs) runs) ≡ whole
     → after ++ written (run_batches (length back) back) ≡ whole
 batch_off runs front back n before after whole some is front_is back_is added so =

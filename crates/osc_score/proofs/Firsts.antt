@@ -11,7 +11,7 @@ use Rattle.osc_score.specs.Reading.{line_read, lines_read}
 use Rattle.osc_score.specs.Answers.{IsFirstFault}
 use Rattle.osc_score.proofs.Going.{read_ok}
 
--- the same of lines that are counted from a number on, behind notes
+-- the same of lines that are counted from a number on, after notes
 record IsFirstFrom (number : ℕ) (notes : List Note) (texts : List (List ℕ)) (fault : ScoreFault) : Type 0 where
   before : List (List ℕ)
   text : List ℕ

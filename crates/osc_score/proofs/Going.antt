@@ -4,13 +4,13 @@ use Rattle.std.proofs.Common.{◌≡◌, ℕ, ◌+◌, ◌≤◌, List, [], ◌�
 use Rattle.osc_script.specs.Words.{lines_of}
 use Rattle.osc_score.specs.declared.reader.Reader.{Reader}
 use Rattle.osc_score.specs.declared.fault.ScoreFault.{ScoreFault}
-use Rattle.osc_score.specs.declared.fault.LineRefusal.TheVariants.{Kind}
+use Rattle.osc_script.specs.declared.fault.LineRefusal.TheVariants.{Kind}
 use Rattle.osc_score.specs.Scores.{Note}
 use Rattle.osc_score.specs.Reading.{line_read, lines_read}
 use Rattle.osc_score.specs.Keeping.{Keeps, IsReading, Goes}
 use Rattle.osc_score.proofs.Read.{TestsAddresses, IsGood, line_good, none_good, none_tree}
 
--- the notes so far are kept, and what the lines behind say is what all of them say
+-- the notes so far are kept, and what the lines after them say is what all of them say
 pub record ReadsOn (reader : Reader) (number : ℕ) (rest all : List (List ℕ)) : Type 0 where
   pub notes : List Note
   pub kept : Keeps reader notes

@@ -8,7 +8,7 @@ use Rattle.osc_score.specs.Reading.{run_with, extended}
 same : (m n : ℕ) → (m == n) ≡ true → m ≡ n
 same m n e = grind (arith, nat_tests)
 
--- a note before, and one behind, in either order
+-- a note before, and one after, in either order
 both_ways : (first : Note) (groups : List Group) (note : Note) → joined first (extended groups note) ≡ extended (joined first groups) note
 both_ways first [] note = go (first.tag == note.tag) refl where
   go : (t : Bool) → (first.tag == note.tag) ≡ t
@@ -47,7 +47,8 @@ pub groups_on : (notes : List Note) (note : Note) → groups_of (notes ++ note �
 groups_on [] note = refl
 groups_on (first ∷ notes) note = ap (joined first) (groups_on notes note) ∙ both_ways first (groups_of notes) note
 
-extended_short : (groups : List Group) (note : Note) → AllByRecursion IsShort groups → IsShort (run_with groups note) → AllByRecursion IsShort (extended groups note)
+extended_short : (groups : List Group) (note : Note) → AllByRecursion IsShort groups → IsShort (run_with groups note)
+    → AllByRecursion IsShort (extended groups note)
 extended_short [] note all one = (one, tt)
 extended_short (group ∷ []) note all one = go (group.tag == note.tag) one where
   go : (t : Bool) → IsShort (cond t (record { tag = group.tag; notes = group.notes ++ note ∷ [] }) (alone note))
@@ -60,7 +61,7 @@ pub short_on : (notes : List Note) (note : Note) → AllByRecursion IsShort (gro
     → AllByRecursion IsShort (groups_of (notes ++ note ∷ []))
 short_on notes note all one = subst (AllByRecursion IsShort) (sym (groups_on notes note)) (extended_short (groups_of notes) note all one)
 
--- One more note behind others.
+-- One more note after others.
 
 pub ordered_on : (least : ℕ) (notes : List Note) (note : Note) → IsOrdered least notes → fold (λ (last : ℕ) (other : Note). other.tag) least notes ≤ note.tag
     → IsOrdered least (notes ++ note ∷ [])

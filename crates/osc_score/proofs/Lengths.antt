@@ -3,7 +3,8 @@ use Rattle.std.proofs.Common.{ℕ, ◌+◌, ◌*◌, ◌≤◌, List, [], ◌∷
 use Rattle.std.specs.List.{flat_map}
 use Rattle.std.proofs.lemmas.List.{length-replicate, length-map}
 use Rattle.osc_atoms.specs.Atoms.{string, string_end, blob, blob_end, word}
-use Rattle.osc_message.specs.Messages.{Argument, integer, float, text, content, long, time, double, symbol, character, rgba, midi, true_, false_, nil, infinitum}
+use Rattle.osc_message.specs.Messages.{Argument, integer, float, text, content, long, time, double, symbol, character, rgba, midi, true_, false_, nil}
+use Rattle.osc_message.specs.Messages.{infinitum}
 use Rattle.osc_message.specs.Messages.{array_start, array_end, tag_of, atom_of, tag_string, message_text}
 use Rattle.osc_score.specs.Scores.{Note, message_of, word_size, words_size}
 

@@ -1,7 +1,8 @@
 -- The message of what is read.
 use Rattle.osc_atoms.specs.declared.limits.TheConstants.{MAX_BYTES}
 use Rattle.osc_score.specs.declared.limits.TheConstants.{MAX_SCORE}
-use Rattle.std.proofs.Common.{◌≡◌, ℕ, ◌≤◌, ◌<◌, ◌^◌, Bool, true, false, cond, IsTrue, List, [], ◌∷◌, ◌++◌, length, map, Option, Some, None, Result, Ok, Err, is_ok, ok_or, IfSome, refl, sym, ap, ◌∙◌, subst, arith}
+use Rattle.std.proofs.Common.{◌≡◌, ℕ, ◌≤◌, ◌<◌, ◌^◌, Bool, true, false, cond, IsTrue, List, [], ◌∷◌, ◌++◌, length, map, Option, Some, None, Result, Ok, Err}
+use Rattle.std.proofs.Common.{is_ok, ok_or, IfSome, refl, sym, ap, ◌∙◌, subst, arith}
 use Rattle.std.specs.List.{flat_map}
 use Rattle.osc_atoms.specs.Atoms.{string, has_no_zero}
 use Rattle.osc_pattern.specs.Addresses.{IsAddress}
@@ -23,7 +24,7 @@ use Rattle.osc_score.proofs.Lengths.{text_few}
 use Rattle.osc_score.proofs.Lines.{words_short}
 use Rattle.osc_score.proofs.Read.{brackets_ok}
 
--- arguments are read, and these are their tags behind a comma, and their atoms
+-- arguments are read, and these are their tags after a comma, and their atoms
 record ArePut (tags atoms : List ℕ) (read : Option (List Argument)) : Type 0 where
   arguments : List Argument
   is : read ≡ Some arguments

@@ -1,6 +1,7 @@
 -- What is kept goes on with a note.
 use Rattle.osc_atoms.specs.declared.limits.TheConstants.{MAX_PACKET}
-use Rattle.std.proofs.Common.{◌≡◌, ℕ, ◌<◌, ◌≤◌, ◌^◌, Bool, true, false, cond, nat_lt, List, [], ◌∷◌, ◌++◌, length, fold, Option, Some, None, Result, Ok, Err, refl, sym, ap, ◌∙◌, subst, arith}
+use Rattle.std.proofs.Common.{◌≡◌, ℕ, ◌<◌, ◌≤◌, ◌^◌, Bool, true, false, cond, nat_lt, List, [], ◌∷◌, ◌++◌, length, fold, Option, Some, None, Result, Ok, Err}
+use Rattle.std.proofs.Common.{refl, sym, ap, ◌∙◌, subst, arith}
 use Rattle.std.proofs.lemmas.Bool.Decides.{nat_tests}
 use Rattle.osc_packet.specs.Bundling.{Bundling}
 use Rattle.osc_pattern.specs.Methods.{Method}
@@ -8,8 +9,8 @@ use Rattle.osc_tree.specs.Registry.{Registry, IsLawful, IsNewId}
 use Rattle.osc_tree.specs.Adding.{Refusal, taken, under_method, is_container, methods_full, nodes_full, add_refusal}
 use Rattle.osc_score.specs.declared.run.Run.{Run}
 use Rattle.osc_score.specs.declared.reader.Reader.{Reader}
-use Rattle.osc_score.specs.declared.fault.LineRefusal.{LineRefusal}
-use Rattle.osc_score.specs.declared.fault.LineRefusal.TheVariants.{Kind, NoMemory}
+use Rattle.osc_script.specs.declared.fault.LineRefusal.{LineRefusal}
+use Rattle.osc_script.specs.declared.fault.LineRefusal.TheVariants.{Kind, NoMemory}
 use Rattle.osc_score.specs.Kinds.{bundle_kind}
 use Rattle.osc_score.specs.Scores.{Note, Group, groups_of, bundle_text, addresses_of, methods_from, tree_of}
 use Rattle.osc_score.specs.Reading.{run_with, extended, unless_refused, note_added}
@@ -62,7 +63,8 @@ runs_kept reader notes last keeps is = subst (λ (o : Option Bundling). KeepsRun
 
 -- what is kept of the old notes and the note, where the address is registered or there already
 
-pub note_kept : (notes : List Note) (note : Note) (old new : Reader) (own : ℕ) (address : List ℕ) (making : Bundling) (result : Result (Unit {0}) LineRefusal) → IsReading old → Keeps old notes
+pub note_kept : (notes : List Note) (note : Note) (old new : Reader) (own : ℕ) (address : List ℕ) (making : Bundling) (result : Result (Unit {0}) LineRefusal)
+    → IsReading old → Keeps old notes
     → note.tag ≡ own → note.address ≡ address → PushesNote (Ok making) (groups_of notes) (extended (groups_of notes) note) note new.runs.items
     → new.last ≡ Some making → new.least ≡ own
     → Registers result (add_refusal old.tree address) old.tree new.tree old.addresses.items new.addresses.items address
@@ -71,13 +73,15 @@ note_kept notes note old new own address making result reading keeps tag_is addr
     subst (λ (r : Result (List Note) ℕ). Goes result r new) (sym decided)
     (go result (add_refusal (tree_of notes) note.address) refl
     (subst (λ (t : Registry). Registers result (add_refusal t note.address) t new.tree old.addresses.items new.addresses.items note.address) keeps.tree
-    (subst (λ (a : List ℕ). Registers result (add_refusal old.tree a) old.tree new.tree old.addresses.items new.addresses.items a) (sym address_is) registers))) where
+    (subst (λ (a : List ℕ). Registers result (add_refusal old.tree a) old.tree new.tree old.addresses.items new.addresses.items a)
+    (sym address_is) registers))) where
       after : List Note
       after = notes ++ note ∷ []
 
       decided : note_added notes note ≡ unless_refused (add_refusal (tree_of notes) note.address) (notes ++ note ∷ [])
       decided =
-          ap (λ (t : Bool). cond {A = Result (List Note) ℕ} t (Err bundle_kind) (unless_refused (add_refusal (tree_of notes) note.address) (notes ++ note ∷ [])))
+          ap (λ (t : Bool). cond {A = Result (List Note) ℕ} t (Err bundle_kind) (unless_refused (add_refusal (tree_of notes) note.address)
+          (notes ++ note ∷ [])))
           (not_less MAX_PACKET (length (bundle_text (run_with (groups_of notes) note))) pushes.0)
 
       lawful : IsLawful (tree_of notes)

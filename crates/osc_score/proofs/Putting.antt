@@ -1,10 +1,11 @@
 -- The arguments of words, one after another.
-use Rattle.std.proofs.Common.{◌≡◌, ℕ, ◌≤◌, List, [], ◌∷◌, ◌++◌, length, map, Option, Some, None, option_map, option_and_then, Ok, Err, refl, sym, ap, ◌∙◌, append_assoc, append-nil, arith}
+use Rattle.std.proofs.Common.{◌≡◌, ℕ, ◌≤◌, List, [], ◌∷◌, ◌++◌, length, map, Option, Some, None, option_map, option_and_then, Ok, Err, refl, sym, ap, ◌∙◌}
+use Rattle.std.proofs.Common.{append_assoc, append-nil, arith}
 use Rattle.std.specs.List.{flat_map}
 use Rattle.osc_message.specs.Messages.{Argument, tag_of, atom_of}
 use Rattle.osc_script.specs.Words.{words_of}
-use Rattle.osc_score.specs.declared.fault.LineRefusal.{LineRefusal}
-use Rattle.osc_score.specs.declared.fault.LineRefusal.TheVariants.{Kind, NoMemory}
+use Rattle.osc_script.specs.declared.fault.LineRefusal.{LineRefusal}
+use Rattle.osc_script.specs.declared.fault.LineRefusal.TheVariants.{Kind, NoMemory}
 use Rattle.osc_score.specs.ArgumentWords.{argument_read, arguments_read}
 use Rattle.osc_score.specs.Argued.{Argues, arguments_onto, ArguesAll}
 use Rattle.osc_score.proofs.Arguments.{spaced_size}
@@ -15,13 +16,14 @@ pub word_few : (text word after : List ℕ) → words_of text ≡ word ∷ words
 word_few text word after cut = omega (arith, words_short text, ap (λ (l : List (List ℕ)). spaced_size l) cut)
 
 onto_one : (tags atoms : List ℕ) (argument : Argument) (read : Option (List Argument))
-    → arguments_onto (tags ++ tag_of argument ∷ []) (atoms ++ atom_of argument) read ≡ arguments_onto tags atoms (option_map (λ arguments. argument ∷ arguments) read)
+    → arguments_onto (tags ++ tag_of argument ∷ []) (atoms ++ atom_of argument) read ≡ arguments_onto tags atoms
+    (option_map (λ arguments. argument ∷ arguments) read)
 onto_one tags atoms argument None = refl
 onto_one tags atoms argument (Some arguments) =
     ap (λ (l : List ℕ). Some (l, (atoms ++ atom_of argument) ++ flat_map atom_of arguments)) (append_assoc tags (tag_of argument ∷ []) (map tag_of arguments))
     ∙ ap (λ (l : List ℕ). Some (tags ++ tag_of argument ∷ map tag_of arguments, l)) (append_assoc atoms (atom_of argument) (flat_map atom_of arguments))
 
--- a word's argument stands behind those before, and the rest is read on
+-- a word's argument stands after those before, and the rest is read on
 pub word_on : (text word after tags atoms more_tags more_atoms : List ℕ) → words_of text ≡ word ∷ words_of after
     → Argues (Ok tt) (argument_read word) tags atoms more_tags more_atoms
     → arguments_onto more_tags more_atoms (arguments_read (words_of after)) ≡ arguments_onto tags atoms (arguments_read (words_of text))
@@ -52,7 +54,8 @@ word_refused words text word after old_tags old_atoms tags atoms new_tags new_at
 word_refused words text word after old_tags old_atoms tags atoms new_tags new_atoms last_tags last_atoms (Kind kind) so_far cut argued =
     let none : arguments_read (words_of text) ≡ None =
     ap (λ (l : List (List ℕ)). arguments_read l) cut
-    ∙ ap (λ (o : Option Argument). option_and_then (λ argument. option_map (λ arguments. argument ∷ arguments) (arguments_read (words_of after))) o) argued.0 in (
+    ∙ ap (λ (o : Option Argument). option_and_then (λ argument. option_map (λ arguments. argument ∷ arguments) (arguments_read (words_of after))) o) argued.0
+    in (
       onto_none old_tags old_atoms (arguments_read (words_of words))
           (ap (λ (o : Option (List Argument)). arguments_onto tags atoms o) (sym none) ∙ so_far),
       argued.1,

@@ -1,7 +1,8 @@
 -- What is read is a score, and its lines are no longer than the input.
 use Rattle.osc_atoms.specs.declared.limits.TheConstants.{MAX_PACKET}
 use Rattle.osc_score.specs.declared.limits.TheConstants.{MAX_SCORE}
-use Rattle.std.proofs.Common.{◌≡◌, ◌↔◌, ℕ, ◌+◌, ◌<◌, ◌≤◌, ◌^◌, Bool, true, false, cond, nat_lt, IsTrue, List, [], ◌∷◌, ◌++◌, length, map, Option, Some, None, Result, Ok, Err, is_ok, ok_or, IfSome, IfOk, inl, inr, codes, refl, sym, ap, subst, arith}
+use Rattle.std.proofs.Common.{◌≡◌, ◌↔◌, ℕ, ◌+◌, ◌<◌, ◌≤◌, ◌^◌, Bool, true, false, cond, nat_lt, IsTrue, List, [], ◌∷◌, ◌++◌, length, map, Option, Some, None}
+use Rattle.std.proofs.Common.{Result, Ok, Err, is_ok, ok_or, IfSome, IfOk, inl, inr, codes, refl, sym, ap, subst, arith}
 use Rattle.std.specs.Prelude.{nat_eq}
 use Rattle.std.specs.List.{AllByRecursion, starts_with}
 use Rattle.std.proofs.lemmas.Bool.{ltb-false}
@@ -18,7 +19,8 @@ use Rattle.osc_score.specs.declared.fault.ScoreFault.{ScoreFault}
 use Rattle.osc_score.specs.Kinds.{too_long_kind, tag_kind, order_kind, address_kind, arg_kind, brackets_kind, bundle_kind}
 use Rattle.osc_score.specs.Scores.{Note, groups_of, bundle_text, IsShort, tree_of, IsNote, IsOrdered, IsScore, note_size, score_size}
 use Rattle.osc_score.specs.ArgumentWords.{tag_read, arguments_read}
-use Rattle.osc_score.specs.Reading.{are_balanced, balanced_note, note_at, note_read, least_of, run_with, unless_refused, note_added, words_read, line_read, lines_read, score_of, IsScored}
+use Rattle.osc_score.specs.Reading.{are_balanced, balanced_note, note_at, note_read, least_of, run_with, unless_refused, note_added, words_read, line_read}
+use Rattle.osc_score.specs.Reading.{lines_read, score_of, IsScored}
 use Rattle.osc_score.proofs.Arguments.{AreSaid, IsWord, spaced_size, tag_small, arguments_said}
 use Rattle.osc_score.proofs.Grouping.{short_on, ordered_on, lawful_on}
 use Rattle.osc_score.proofs.Trees.{tree_same, tree_more}
@@ -52,7 +54,7 @@ brackets_ok tags ok = elim (balance_seen 0 tags) [
       absurd (cc)
 ]
 
--- what a note says, that stands behind tags of at least this, with so many bytes behind its moment
+-- what a note says, that stands after tags of at least this, with so many bytes after its moment
 record IsNoted (least size : ℕ) (note : Note) : Type 0 where
   later : least ≤ note.tag
   lawful : IsNote note
@@ -150,7 +152,8 @@ same_more : (notes : List Note) (size : ℕ) (more : List Note) → IsGood notes
 same_more notes size more good is =
     let same : notes ≡ more = cc in subst (IsMore notes size) same (record { good = good; short = omega arith })
 
-words_good : TestsAddresses → (notes : List Note) (words : List (List ℕ)) (size : ℕ) (more : List Note) → IsGood notes → spaced_size words ≤ size + 1 → size < 2 ^ 31
+words_good : TestsAddresses → (notes : List Note) (words : List (List ℕ)) (size : ℕ) (more : List Note) → IsGood notes → spaced_size words ≤ size + 1
+    → size < 2 ^ 31
     → words_read notes words ≡ Ok more → IsMore notes size more
 words_good tests notes [] size more good fits few is = same_more notes size more good is
 words_good tests notes (word ∷ []) size more good fits few is = absurd (cc)
@@ -208,7 +211,8 @@ score_good tests empty bytes = go (nat_lt MAX_SCORE (length bytes)) refl where
   each (Ok notes) more within = last (lines_size (lines_of bytes)) notes more (lines_short bytes) within
 
   go : (t : Bool) → nat_lt MAX_SCORE (length bytes) ≡ t
-      → IfOk (cond {A = Result (List Note) ScoreFault} t (Err (record { line = 0; kind = too_long_kind })) (lines_read 1 [] (lines_of bytes))) (IsScored (length bytes))
+      → IfOk (cond {A = Result (List Note) ScoreFault} t (Err (record { line = 0; kind = too_long_kind })) (lines_read 1 [] (lines_of bytes)))
+      (IsScored (length bytes))
   go true e = tt
   go false e =
       let within : length bytes ≤ MAX_SCORE = ltb-false _ _ e in

@@ -1,5 +1,6 @@
 -- The bytes of a text, one after another.
-use Rattle.std.proofs.Common.{◌≡◌, ℕ, zero, suc, ◌<◌, ◌≤◌, List, [], ◌∷◌, ◌++◌, length, Option, Some, None, option_map, option_and_then, IfSome, refl, sym, ap, ◌∙◌, arith}
+use Rattle.std.proofs.Common.{◌≡◌, ℕ, zero, suc, ◌<◌, ◌≤◌, List, [], ◌∷◌, ◌++◌, length, Option, Some, None, option_map, option_and_then, IfSome, refl, sym, ap}
+use Rattle.std.proofs.Common.{◌∙◌, arith}
 use Rattle.std.proofs.Common.{append_assoc}
 use Rattle.osc_score.specs.ArgumentWords.{first_byte, text_within, text_read}
 use Rattle.osc_score.proofs.Arguments.{first_shorter}
@@ -20,7 +21,7 @@ enough (suc m) (suc n) (byte ∷ word) few also =
       go None short more = refl
       go (Some cut) short more = ap (λ (t : Option (List ℕ)). option_map (λ bytes. cut.0 ∷ bytes) t) (more cut.1 short)
 
--- what is read behind other bytes
+-- what is read after other bytes
 abbrev pub behind : List ℕ → Option (List ℕ) → Option (List ℕ)
 behind front read = option_map (λ bytes. front ++ bytes) read
 

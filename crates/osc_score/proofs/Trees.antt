@@ -1,5 +1,6 @@
 -- The tree of the distinct addresses, with one more note.
-use Rattle.std.proofs.Common.{◌≡◌, ◌≢◌, ℕ, zero, suc, ◌+◌, ◌<◌, ◌||◌, Bool, true, false, cond, List, [], ◌∷◌, ◌++◌, length, get_or, Some, None, refl, sym, ap, ◌∙◌, subst, arith}
+use Rattle.std.proofs.Common.{◌≡◌, ◌≢◌, ℕ, zero, suc, ◌+◌, ◌<◌, ◌||◌, Bool, true, false, cond, List, [], ◌∷◌, ◌++◌, length, get_or, Some, None, refl, sym, ap}
+use Rattle.std.proofs.Common.{◌∙◌, subst, arith}
 use Rattle.std.proofs.Common.{append_assoc, append-nil}
 use Rattle.std.specs.List.{list_any}
 use Rattle.std.specs.Str.{bytes_eq}
@@ -21,19 +22,20 @@ uses_on : (before : List (List ℕ)) (notes : List Note) (note : Note)
     → first_uses before (notes ++ note ∷ []) ≡ first_uses before notes ++ new_one (before ++ first_uses before notes) note.address
 uses_on before [] note =
     ap (λ (l : List (List ℕ)). new_one l note.address) (sym (append-nil before))
-uses_on before (first ∷ notes) note = go (list_any (bytes_eq first.address) before) (uses_on before notes note) (uses_on (before ++ first.address ∷ []) notes note) where
-  go : (t : Bool) → first_uses before (notes ++ note ∷ []) ≡ first_uses before notes ++ new_one (before ++ first_uses before notes) note.address
-      → first_uses (before ++ first.address ∷ []) (notes ++ note ∷ [])
-      ≡ first_uses (before ++ first.address ∷ []) notes
-      ++ new_one ((before ++ first.address ∷ []) ++ first_uses (before ++ first.address ∷ []) notes) note.address
-      → cond t (first_uses before (notes ++ note ∷ [])) (first.address ∷ first_uses (before ++ first.address ∷ []) (notes ++ note ∷ []))
-      ≡ cond t (first_uses before notes) (first.address ∷ first_uses (before ++ first.address ∷ []) notes)
-      ++ new_one (before ++ cond t (first_uses before notes) (first.address ∷ first_uses (before ++ first.address ∷ []) notes)) note.address
-  go true old new = old
-  go false old new =
-      let later : List (List ℕ) = first_uses (before ++ first.address ∷ []) notes in
-      ap (λ (l : List (List ℕ)). first.address ∷ l) new
-      ∙ ap (λ (l : List (List ℕ)). first.address ∷ (later ++ new_one l note.address)) (append_assoc before (first.address ∷ []) later)
+uses_on before (first ∷ notes) note = go (list_any (bytes_eq first.address) before) (uses_on before notes note)
+    (uses_on (before ++ first.address ∷ []) notes note) where
+      go : (t : Bool) → first_uses before (notes ++ note ∷ []) ≡ first_uses before notes ++ new_one (before ++ first_uses before notes) note.address
+          → first_uses (before ++ first.address ∷ []) (notes ++ note ∷ [])
+          ≡ first_uses (before ++ first.address ∷ []) notes
+          ++ new_one ((before ++ first.address ∷ []) ++ first_uses (before ++ first.address ∷ []) notes) note.address
+          → cond t (first_uses before (notes ++ note ∷ [])) (first.address ∷ first_uses (before ++ first.address ∷ []) (notes ++ note ∷ []))
+          ≡ cond t (first_uses before notes) (first.address ∷ first_uses (before ++ first.address ∷ []) notes)
+          ++ new_one (before ++ cond t (first_uses before notes) (first.address ∷ first_uses (before ++ first.address ∷ []) notes)) note.address
+      go true old new = old
+      go false old new =
+          let later : List (List ℕ) = first_uses (before ++ first.address ∷ []) notes in
+          ap (λ (l : List (List ℕ)). first.address ∷ l) new
+          ∙ ap (λ (l : List (List ℕ)). first.address ∷ (later ++ new_one l note.address)) (append_assoc before (first.address ∷ []) later)
 
 methods_on : (id : ℕ) (addresses : List (List ℕ)) (address : List ℕ)
     → methods_from id (addresses ++ address ∷ []) ≡ methods_from id addresses ++ record { id = id + length addresses; address = address } ∷ []
@@ -42,7 +44,8 @@ methods_on id [] address =
 methods_on id (first ∷ addresses) address =
     let same : id + 1 + length addresses ≡ id + suc (length addresses) = omega arith in
     ap (λ (l : List Method). record { id = id; address = first } ∷ l) (methods_on (id + 1) addresses address)
-    ∙ ap (λ (n : ℕ). let m : Method = record { id = n; address = address } in record { id = id; address = first } ∷ (methods_from (id + 1) addresses ++ m ∷ [])) same
+    ∙ ap (λ (n : ℕ). let m : Method = record { id = n; address = address } in record { id = id; address = first }
+    ∷ (methods_from (id + 1) addresses ++ m ∷ [])) same
 
 -- each id is below the number of addresses
 
@@ -75,7 +78,9 @@ none_used : (id : ℕ) (addresses : List (List ℕ)) (address : List ℕ)
 none_used id [] address none = refl
 none_used id (first ∷ addresses) address none =
     let own : bytes_eq address first ≡ false =
-    false_from_ne_true (bytes_eq address first) (λ e. none 0 (record { id = id; address = first }) (omega arith) (sym ((bytes_eq-Decides address first).0 e))) in
+    false_from_ne_true (bytes_eq address first)
+    (λ e. none 0 (record { id = id; address = first }) (omega arith) (sym ((bytes_eq-Decides address first).0 e)))
+    in
     ap (λ (t : Bool). t || list_any (bytes_eq address) addresses) own
     ∙ none_used (id + 1) addresses address (λ k d below. none (suc k) d (omega arith))
 
@@ -100,7 +105,8 @@ tree_more notes note lawful spelled none =
     let unused : list_any (bytes_eq note.address) addresses ≡ false = none_used 0 addresses note.address (λ k d below. can.apart.none_at k d below) in
     let more : addresses_of (notes ++ note ∷ []) ≡ addresses ++ note.address ∷ [] =
     uses_on [] notes note ∙ ap (λ (t : Bool). addresses ++ cond t [] (note.address ∷ [])) unused in
-    let methods : methods_from 0 (addresses_of (notes ++ note ∷ [])) ≡ methods_from 0 addresses ++ record { id = length addresses; address = note.address } ∷ [] =
+    let methods : methods_from 0 (addresses_of (notes ++ note ∷ []))
+    ≡ methods_from 0 addresses ++ record { id = length addresses; address = note.address } ∷ [] =
     ap (methods_from 0) more ∙ methods_on 0 addresses note.address ∙ zero_on in
     subst (λ (l : List Method). IsLawful (record { methods = l; method_limit = 1024; node_limit = 4096 })) (sym methods)
     (added_lawful (tree_of notes) (length addresses) note.address lawful (new_id addresses) spelled can) where

@@ -4,8 +4,8 @@ use Rattle.std.specs.Prelude.{◌≡◌, ℕ, ◌≤◌, List, [], ◌∷◌, �
 use Rattle.std.specs.Prelude.{option_map, Result, Ok, Err}
 use Rattle.std.specs.List.{flat_map}
 use Rattle.osc_message.specs.Messages.{Argument, tag_of, atom_of, HasNoZero, known, message_text}
-use Rattle.osc_score.specs.declared.fault.LineRefusal.{LineRefusal}
-use Rattle.osc_score.specs.declared.fault.LineRefusal.TheVariants.{Kind, NoMemory}
+use Rattle.osc_script.specs.declared.fault.LineRefusal.{LineRefusal}
+use Rattle.osc_script.specs.declared.fault.LineRefusal.TheVariants.{Kind, NoMemory}
 use Rattle.osc_score.specs.declared.note.Said.{Said}
 use Rattle.osc_score.specs.Kinds.{arg_kind}
 use Rattle.osc_score.specs.Scores.{Note}

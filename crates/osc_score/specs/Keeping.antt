@@ -12,8 +12,8 @@ use Rattle.osc_score.specs.declared.fault.ScoreFault.{ScoreFault}
 use Rattle.osc_score.specs.declared.fault.ScoreRefusal.{ScoreRefusal}
 use Rattle.osc_score.specs.declared.fault.ScoreRefusal.TheVariants.{Fault}
 use Rattle.osc_score.specs.declared.fault.ScoreRefusal.TheVariants.{NoMemory as NoScoreMemory}
-use Rattle.osc_score.specs.declared.fault.LineRefusal.{LineRefusal}
-use Rattle.osc_score.specs.declared.fault.LineRefusal.TheVariants.{Kind, NoMemory}
+use Rattle.osc_script.specs.declared.fault.LineRefusal.{LineRefusal}
+use Rattle.osc_script.specs.declared.fault.LineRefusal.TheVariants.{Kind, NoMemory}
 use Rattle.osc_score.specs.Kinds.{bundle_kind}
 use Rattle.osc_score.specs.Scores.{Note, Group, groups_of, message_of, bundle_text, addresses_of}
 use Rattle.osc_score.specs.Scores.{tree_of}

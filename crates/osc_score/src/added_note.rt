@@ -12,12 +12,13 @@ ghost use Rattle.osc_score.specs.Reading.{note_added, extended};
 ghost use Rattle.osc_score.specs.Keeping.{KeepsRuns, Pushes, PushesNote, Registers, Keeps};
 ghost use Rattle.osc_score.specs.Keeping.{IsReading, Goes};
 
-use crate::fault::{LineRefusal, ScoreFault};
+use crate::fault::ScoreFault;
 use crate::reader::Reader;
 use crate::run::Run;
 use osc_message::Message;
 use osc_packet::{BundleFault, Bundler};
 use osc_pattern::Address;
+use osc_script::LineRefusal;
 use osc_tree::{Tree, TreeRefusal};
 use std::alloc::{AllocError, Global};
 

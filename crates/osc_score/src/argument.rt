@@ -11,11 +11,12 @@ ghost use Rattle.osc_score.specs.ArgumentWords.{bare_read, number_read, value_re
 ghost use Rattle.osc_score.specs.ArgumentWords.{argument_read, text_read};
 ghost use Rattle.osc_score.specs.Argued.{Argues, IsUnder};
 
-use crate::fault::{LineRefusal, ScoreFault};
+use crate::fault::ScoreFault;
 use crate::number::{read_signed, read_tag, read_word};
 use crate::text::read_text;
 use hex::FromHexError;
 use osc_message::{Arg, append_argument, argument_size};
+use osc_script::LineRefusal;
 use std::alloc::Global;
 
 /// The argument of a word, as its tag and its bytes, after those before.

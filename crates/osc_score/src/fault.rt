@@ -1,13 +1,12 @@
 //! Why a score isn't read.
 ghost use Rattle.std.specs.Prelude.{◌≡◌};
-ghost use Rattle.osc_score.specs.declared.fault.LineRefusal.TheVariants.{NoMemory};
-ghost use Rattle.osc_score.specs.declared.fault.ScoreRefusal.TheVariants.{NoMemory as NoScoreMemory};
+ghost use Rattle.osc_score.specs.declared.fault.ScoreRefusal.TheVariants.{NoMemory};
 
 use std::alloc::AllocError;
 use thiserror::Error;
 
-/// The first line outside the rules, counted from 1, or 0 for an input that is too long. The kinds are tried in the
-/// order of their numbers.
+/// The first line outside the rules, counted from 1, or 0 for an input that is too long. The kinds
+/// are tried in the order of their numbers.
 #[derive(Clone, Copy, Debug, PartialEq, Eq, Error)]
 #[error("line {line} of the score has a fault of kind {kind}")]
 pub struct ScoreFault {
@@ -48,25 +47,9 @@ pub enum ScoreRefusal {
 }
 
 impl From<AllocError> for ScoreRefusal {
-    ghost from_gives = { λ _ r. r ≡ NoScoreMemory };
+    ghost from_gives = { λ _ r. r ≡ NoMemory };
 
     fn from(_error: AllocError) -> ScoreRefusal {
         ScoreRefusal::NoMemory
-    }
-}
-
-/// Why a line isn't read.
-#[derive(Clone, Copy)]
-pub(crate) enum LineRefusal {
-    /// The kind of its fault.
-    Kind(u8),
-    NoMemory,
-}
-
-impl From<AllocError> for LineRefusal {
-    ghost from_gives = { λ _ r. r ≡ NoMemory };
-
-    fn from(_error: AllocError) -> LineRefusal {
-        LineRefusal::NoMemory
     }
 }

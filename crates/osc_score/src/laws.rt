@@ -9,8 +9,9 @@ ghost use Rattle.osc_score.specs.Reading.{score_of, IsScored};
 
 use osc_pattern::laws as addresses;
 
-/// What is read is a score: each note is lawful, no tag is below 2 or below the one before, no bundle is too long, and
-/// the distinct addresses make a lawful tree. Its lines are no longer than the input.
+/// What is read is a score: each note is lawful, no tag is below 2 or below the one before, no
+/// bundle is too long, and the distinct addresses make a lawful tree. Its lines are no longer than
+/// the input.
 pub fn what_is_read_is_a_score()
     ensures { (bytes : List ℕ) → IfOk (score_of bytes) (IsScored (length bytes)) }
 {
@@ -22,7 +23,8 @@ pub fn what_is_kept_plays_the_score()
     ensures { (notes : List Note) → plan_script (plan_of notes) ≡ score_script notes }
 {}
 
-/// Three notes at two moments, read, and the script that plays them; faults of most kinds; and words of each form.
+/// Three notes at two moments, read, and the script that plays them; faults of most kinds; and
+/// words of each form.
 #[tactic(auto, unfolding(hex::specs::Hex::encode_with))]
 pub fn examples()
     ensures read { score_of

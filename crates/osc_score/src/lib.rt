@@ -1,4 +1,5 @@
-//! Scores: text whose lines say when what is played, and the script that plays one (docs/FORMATS.md).
+//! Scores: text whose lines say when what is played, and the script that plays one
+//! (docs/FORMATS.md).
 #![tactic(auto)]
 
 mod added_note;

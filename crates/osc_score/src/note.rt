@@ -13,12 +13,12 @@ ghost use Rattle.osc_score.specs.Reading.{note_read, balanced_note};
 ghost use Rattle.osc_score.specs.Argued.{ArguesAll, TellsMessage, TellsNote};
 
 use crate::argument::put_word;
-use crate::fault::{LineRefusal, ScoreFault};
+use crate::fault::ScoreFault;
 use crate::number::read_tag;
 use osc_atoms::Bytes;
 use osc_message::{are_balanced, message_bytes};
 use osc_pattern::{Address, AddressFault};
-use osc_script::next_word;
+use osc_script::{LineRefusal, next_word};
 use std::alloc::{AllocError, Global};
 
 /// What a line says: a moment, and the message that is sent to an address then.

@@ -11,8 +11,8 @@ use osc_pattern::Address;
 use std::alloc::{AllocError, Global};
 use std::marker::Model;
 
-/// A score: which messages are played, and when. A contract sees the distinct addresses in the order of their first
-/// use, and the runs of notes with one tag, each as the bundle that plays it.
+/// A score: which messages are played, and when. A contract sees the distinct addresses in the
+/// order of their first use, and the runs of notes with one tag, each as the bundle that plays it.
 #[derive(Drop)]
 pub struct Score {
     addresses: Vec<Address>,
@@ -39,8 +39,8 @@ impl Score {
     ghost use Rattle.osc_score.specs.Keeping.{Keeps};
     ghost use Rattle.osc_score.specs.Answers.{Reads, IsFirstFault};
 
-    /// The score of the bytes, or the first fault (docs/FORMATS.md, "Scores"); `NoMemory` where memory runs out before
-    /// one is found.
+    /// The score of the bytes, or the first fault (docs/FORMATS.md, "Scores"); `NoMemory` where
+    /// memory runs out before one is found.
     pub fn read(alloc: Global, bytes: &[u8]) -> Result<Score, ScoreRefusal>
         ensures reads { Reads result (score_of bytes.now) }
         ensures first { (fault : ScoreFault) → result ≡ Err (ScoreRefusal.Fault fault)
@@ -73,8 +73,9 @@ impl Score {
         })
     }
 
-    /// The script that plays the score: an `add` for each address; then, for each 16 runs, a `send` of each bundle, and
-    /// for each of them a `tick` to its tag and a `pump`. An `Err` means out of memory.
+    /// The script that plays the score: an `add` for each address; then, for each 16 runs, a `send`
+    /// of each bundle, and for each of them a `tick` to its tag and a `pump`. An `Err` means out of
+    /// memory.
     pub fn script(&self) -> Result<Bytes, AllocError>
         ensures { IfOk result (λ bytes. bytes ≡ plan_script self.now) }
     {

@@ -8,12 +8,12 @@ ghost use Rattle.osc_score.specs.Reading.{note_read, note_added, least_of, line_
 ghost use Rattle.osc_score.specs.Keeping.{Keeps, IsReading, Goes, KeepsAll};
 
 use crate::added_note::add_note;
-use crate::fault::{LineRefusal, ScoreFault, ScoreRefusal};
+use crate::fault::{ScoreFault, ScoreRefusal};
 use crate::limits::{MAX_ADDRESSES, MAX_NODES};
 use crate::note::{Said, read_note};
 use crate::reader::Reader;
 use osc_message::Message;
-use osc_script::{first_line, next_word};
+use osc_script::{LineRefusal, first_line, next_word};
 use osc_tree::Tree;
 use std::alloc::{AllocError, Global};
 

@@ -1,4 +1,4 @@
--- One line more, and those behind it.
+-- One line more, and those after it.
 use Rattle.std.proofs.Common.{◌≡◌, ◌∙◌, ℕ, suc, ◌+◌, ◌-◌, ◌<◌, ◌≤◌, ◌/◌, ◌%◌, List, ◌++◌, sym, ap, arith, append_assoc, append-nil}
 use Rattle.osc_script.specs.Draws.{after, drawn}
 use Rattle.osc_script.specs.declared.act.Act.TheVariants.{Add}

@@ -7,7 +7,7 @@ use Rattle.osc_script.specs.declared.fault.ScriptFault.{ScriptFault}
 use Rattle.osc_script.specs.Words.{lines_of}
 use Rattle.osc_script.specs.Scripts.{line_of, onto, script_from}
 
--- what is read, behind what was read before
+-- what is read, after what was read before
 abbrev pub behind : List Line → Result (List Line) ScriptFault → Result (List Line) ScriptFault
 behind front (Ok lines) = Ok (front ++ lines)
 behind front (Err fault) = Err fault
@@ -18,7 +18,7 @@ behind_step lines None read = ap (λ l. behind l read) (append-nil lines)
 behind_step lines (Some line) (Ok more) = ap Ok (append_assoc lines (line ∷ []) more)
 behind_step lines (Some line) (Err fault) = refl
 
--- a line that is read is behind those before it, and the rest is read on
+-- a line that is read is after those before it, and the rest is read on
 pub line_read : (mode : Mode) (number : ℕ) (bytes text rest : List ℕ) (lines new : List Line) (said : Option Line) → lines_of bytes ≡ text ∷ lines_of rest
     → line_of mode number text ≡ Ok said → new ≡ lines ++ option_to_list said
     → behind new (script_from mode (number + 1) (lines_of rest)) ≡ behind lines (script_from mode number (lines_of bytes))

@@ -91,7 +91,8 @@ fn put_words(script: &mut Vec<u8>, word: &[u8], operand: &[u8]) -> Result<(), Al
     script.extend_from_slice(b"\n")
 }
 
-/// Adds a line of a word and, as its operand, the digits of these bytes, or nothing where memory is refused.
+/// Adds a line of a word and, as its operand, the digits of these bytes, or nothing where memory is
+/// refused.
 pub fn put_digits(
     alloc: Global,
     script: &mut Vec<u8>,

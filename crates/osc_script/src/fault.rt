@@ -5,8 +5,8 @@ ghost use Rattle.osc_script.specs.declared.fault.LineRefusal.TheVariants.{NoMemo
 use std::alloc::AllocError;
 use thiserror::Error;
 
-/// The first line outside the rules, counted from 1, or 0 for an input that is too long; docs/FORMATS.md has the
-/// order in which the kinds are tried.
+/// The first line outside the rules, counted from 1, or 0 for an input that is too long.
+/// docs/FORMATS.md has the order in which the kinds are tried.
 #[derive(Clone, Copy, Debug, PartialEq, Eq, Error)]
 #[error("line {line} of the script has a fault of kind {kind}")]
 pub struct ScriptFault {
@@ -25,7 +25,8 @@ impl ScriptFault {
     pub const COUNT: u8 = 3;
     /// The operand of `add` or `remove` isn't a lawful address.
     pub const ADDRESS: u8 = 4;
-    /// The joined words of a `send` have a byte that is no hexadecimal digit, or are an odd number of digits.
+    /// The joined words of a `send` have a byte that is no hexadecimal digit, or are an odd number
+    /// of digits.
     pub const HEX: u8 = 5;
     /// The operand of `tick` isn't exactly 16 hexadecimal digits.
     pub const TAG: u8 = 6;
@@ -42,9 +43,9 @@ pub enum ScriptRefusal {
     NoMemory,
 }
 
-/// Why a line isn't read.
+/// Why a line isn't read, of a script or of a score.
 #[derive(Clone, Copy)]
-pub(crate) enum LineRefusal {
+pub enum LineRefusal {
     /// The kind of its fault.
     Kind(u8),
     NoMemory,

@@ -25,8 +25,8 @@ ghost use Rattle.osc_script.specs.Faults.{IsFirstFault};
 ghost use Rattle.osc_script.specs.Written.{IsWritable, numbered, written};
 ghost use Rattle.osc_script.specs.Generated.{drawn_acts, generated_acts, generated_script};
 
-/// A line feed ends a line; one carriage return right before it is no part of the line; a last line without a line feed
-/// stands as it is.
+/// A line feed ends a line; one carriage return right before it is no part of the line; a last line
+/// without a line feed stands as it is.
 pub fn lines_end_at_line_feeds()
     ensures ended { (line rest : List ℕ) → All (λ byte. is_line_feed byte ≡ false) line
         → lines_of (line ++ 10 ∷ rest) ≡ without_return line ∷ lines_of rest }
@@ -35,7 +35,8 @@ pub fn lines_end_at_line_feeds()
         → lines_of line ≡ line ∷ [] }
 {}
 
-/// Spaces stand between words, and it doesn't matter how many, nor whether some stand first or last.
+/// Spaces stand between words, and it doesn't matter how many, nor whether some stand first or
+/// last.
 pub fn words_stand_between_spaces()
     ensures spaced { (text : List ℕ) → words_of (32 ∷ text) ≡ words_of text }
     ensures word { (word rest : List ℕ) → All (λ byte. is_space byte ≡ false) word → 0 < length word
@@ -44,7 +45,8 @@ pub fn words_stand_between_spaces()
         → words_of word ≡ word ∷ [] }
 {}
 
-/// What a script that isn't refused holds: addresses that are lawful, moments of 64 bits, and no more lines than bytes.
+/// What a script that isn't refused holds: addresses that are lawful, moments of 64 bits, and no
+/// more lines than bytes.
 pub fn scripts_are_lawful()
     ensures lawful { (mode : Mode) (bytes : List ℕ) → IfOk (script_of mode bytes) AreLawful }
     ensures few { (mode : Mode) (bytes : List ℕ)
@@ -53,7 +55,8 @@ pub fn scripts_are_lawful()
         → IfOk (script_of mode bytes) (λ _. length bytes ≤ MAX_SCRIPT) }
 {}
 
-/// What is read is of its mode: lane 0, or one of the lanes in mode `Lanes`, and only adds in mode `Serve`.
+/// What is read is of its mode: lane 0, or one of the lanes in mode `Lanes`, and only adds in mode
+/// `Serve`.
 pub fn lines_are_of_their_mode()
     ensures { (mode : Mode) (bytes : List ℕ) → IfOk (script_of mode bytes) (AreOf mode) }
 {}
@@ -64,7 +67,8 @@ pub fn first_fault_decides()
         → script_of mode bytes ≡ Err fault → 0 < fault.line → IsFirstFault mode bytes fault }
 {}
 
-/// The words decide in this order: the word itself, how many words follow it, and only then what they are.
+/// The words decide in this order: the word itself, how many words follow it, and only then what
+/// they are.
 pub fn words_are_counted_first()
     ensures unknown { (word : List ℕ) (operands : List (List ℕ)) → is_known word ≡ false
         → act_of word operands ≡ Err word_kind }
@@ -72,8 +76,8 @@ pub fn words_are_counted_first()
         → has_count word (length operands) ≡ false → act_of word operands ≡ Err count_kind }
 {}
 
-/// In mode `Lanes` the lane decides first, whatever follows it. Then there has to be a word, and from it on the line
-/// says what it says in mode `Plain`.
+/// In mode `Lanes` the lane decides first, whatever follows it. Then there has to be a word, and
+/// from it on the line says what it says in mode `Plain`.
 pub fn lanes_come_first()
     ensures lane { (word : List ℕ) (words : List (List ℕ)) → lane_of word ≡ None
         → said_of Lanes word words ≡ Err lane_kind }
@@ -91,8 +95,8 @@ pub fn lanes_are_decimal()
         → (lane < MAX_LANES) × (word ≡ decimal lane) }
 {}
 
-/// In mode `Serve` an `add` says what it says in the others. Any other line is refused: by its word, then by how many
-/// words follow it, and only then because it isn't lawful there.
+/// In mode `Serve` an `add` says what it says in the others. Any other line is refused: by its
+/// word, then by how many words follow it, and only then because it isn't lawful there.
 pub fn serve_takes_adds_alone()
     ensures add { (word : List ℕ) (operands : List (List ℕ)) → bytes_eq word (codes "add") ≡ true
         → served_of word operands ≡ act_of word operands }
@@ -132,7 +136,8 @@ pub fn written_scripts_are_read_again()
         → script_of Plain (written acts) ≡ Ok (numbered 1 acts) }
 {}
 
-/// A generated script has as many lines as it was asked for, and is read as the acts that were drawn.
+/// A generated script has as many lines as it was asked for, and is read as the acts that were
+/// drawn.
 #[tactic(auto, using(crate::proofs::DrawnAgain::drawn_again, crate::proofs::DrawnAgain::so_many))]
 pub fn generated_scripts_are_read_again()
     ensures again { (seed lines : ℕ) → lines ≤ MAX_GENERATED_LINES

@@ -1,4 +1,5 @@
-//! Scripts: what the lines of an input say, or the first fault; and scripts that are drawn from a seed.
+//! Scripts: what the lines of an input say, or the first fault; and scripts that are drawn from a
+//! seed.
 #![tactic(auto)]
 
 mod act;
@@ -24,7 +25,7 @@ mod words;
 pub use act::Act;
 pub use drawn_lines::{put_digits, put_line};
 pub use drawn_script::MAX_GENERATED_LINES;
-pub use fault::{ScriptFault, ScriptRefusal};
+pub use fault::{LineRefusal, ScriptFault, ScriptRefusal};
 pub use lane::MAX_LANES;
 pub use line::Line;
 pub use mode::Mode;

@@ -37,7 +37,8 @@ impl Script {
     ghost use Rattle.osc_script.specs.Faults.{IsFirstFault};
     ghost use Rattle.osc_script.specs.declared.fault.ScriptFault.{ScriptFault};
 
-    /// The lines of the bytes, or the first fault; `NoMemory` where memory runs out before one is found.
+    /// The lines of the bytes, or the first fault; `NoMemory` where memory runs out before one is
+    /// found.
     pub fn read(alloc: Global, bytes: &[u8], mode: Mode) -> Result<Script, ScriptRefusal>
         ensures reads { Reads result (script_of mode bytes.now) }
         ensures first { (fault : ScriptFault) → result ≡ Err (ScriptRefusal.Fault fault)
@@ -58,8 +59,8 @@ impl Script {
         read_lines(alloc, bytes, mode)
     }
 
-    /// The bytes of the script of so many lines that is drawn from the seed (docs/FORMATS.md, "Generated scripts"). An
-    /// `Err` means out of memory.
+    /// The bytes of the script of so many lines that is drawn from the seed (docs/FORMATS.md,
+    /// "Generated scripts"). An `Err` means out of memory.
     pub fn generate(alloc: Global, seed: u64, lines: u32) -> Result<Bytes, AllocError>
         requires few { lines ≤ MAX_GENERATED_LINES }
         ensures { IfOk result (λ bytes. bytes ≡ generated_script seed lines) }

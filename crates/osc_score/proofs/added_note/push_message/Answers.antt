@@ -8,7 +8,8 @@ use Rattle.osc_score.proofs.added_note.push_message.Goals as goal
 pub returns-then-tag-least : goal.returns-then-tag-least
 returns-then-tag-least c groups note keeps tag_is text_is =
     same_pushed c.args.least c.args.tag c.args.runs.now.items c.in-Some.bundler groups note c.args.message.now c.pushed.result
-    (subst (λ (o : Option Bundling). KeepsRuns c.args.least c.args.runs.now.items o groups) c.in-Some.is keeps) tag_is c.if-tag-least.true text_is c.pushed.ensures
+    (subst (λ (o : Option Bundling). KeepsRuns c.args.least c.args.runs.now.items o groups) c.in-Some.is keeps) tag_is c.if-tag-least.true text_is
+    c.pushed.ensures
 
 pub returns-in_ok-keep-in-Some : goal.returns-in_ok-keep-in-Some
 returns-in_ok-keep-in-Some c groups note keeps tag_is text_is =

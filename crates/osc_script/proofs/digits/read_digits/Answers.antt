@@ -22,4 +22,5 @@ loop-rest-preserved c =
 
 pub returns-then-is_empty : goal.returns-then-is_empty
 returns-then-is_empty c =
-    pairs_read c.args.text.now c.loop-rest.bytes.items c.loop-rest.rest.now (eqb-true (length c.loop-rest.rest.now) 0 (sym c.if-is_empty.ensures)) c.loop-rest.invariant.1 c.loop-rest.invariant.0
+    pairs_read c.args.text.now c.loop-rest.bytes.items c.loop-rest.rest.now (eqb-true (length c.loop-rest.rest.now) 0 (sym c.if-is_empty.ensures))
+    c.loop-rest.invariant.1 c.loop-rest.invariant.0
