@@ -21,8 +21,8 @@ use Rattle.osc_turn.specs.Rule.{number_of}
 use Rattle.osc_turn.specs.Rule as rule
 use Rattle.osc_turn.specs.Passes.{view, one_more}
 use Rattle.osc_live.specs.declared.caller.Caller.{Caller}
-use Rattle.osc_live.specs.declared.refusal.EnrolRefusal.{EnrolRefusal}
-use Rattle.osc_live.specs.declared.refusal.EnrolRefusal.TheVariants as refusal
+use Rattle.osc_live.specs.declared.guest.EnrolRefusal.{EnrolRefusal}
+use Rattle.osc_live.specs.declared.guest.EnrolRefusal.TheVariants as refusal
 use Rattle.osc_live.specs.Enrolments.{refusal_of}
 use Rattle.osc_live.specs.Seen.{history_of, performance_in}
 use Rattle.osc_live.specs.Calls.{Calls, EndsWith}

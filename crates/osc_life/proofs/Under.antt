@@ -16,7 +16,7 @@ use Rattle.osc_turn.specs.Passes.{view}
 use Rattle.osc_turn.proofs.Histories.{starts_here}
 use Rattle.osc_live.specs.declared.caller.Caller.{Caller}
 use Rattle.osc_live.specs.declared.guest.Guest.{Guest}
-use Rattle.osc_live.specs.declared.refusal.EnrolRefusal.{EnrolRefusal}
+use Rattle.osc_live.specs.declared.guest.EnrolRefusal.{EnrolRefusal}
 use Rattle.osc_live.specs.Enrolments.{refusal_of}
 use Rattle.osc_live.specs.Seen.{history_of, performance_in}
 use Rattle.osc_live.specs.Closing.{known, views_of, Closes}

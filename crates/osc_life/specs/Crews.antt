@@ -14,7 +14,7 @@ use Rattle.osc_turn.specs.Passes.{view}
 use Rattle.osc_live.specs.Seen.{history_of, performance_in}
 use Rattle.osc_live.specs.declared.caller.Caller.{Caller}
 use Rattle.osc_live.specs.declared.guest.Guest.{Guest}
-use Rattle.osc_live.specs.declared.refusal.EnrolRefusal.{EnrolRefusal}
+use Rattle.osc_live.specs.declared.guest.EnrolRefusal.{EnrolRefusal}
 use Rattle.osc_live.specs.Enrolments.{refusal_of}
 use Rattle.osc_life.specs.Holders.{seen_by}
 

@@ -10,7 +10,7 @@ ghost use Rattle.osc_turn.specs.History.{StartsWith};
 ghost use Rattle.osc_turn.specs.Passes.{view};
 ghost use Rattle.osc_live.specs.Closing.{Closes, known, views_of};
 ghost use Rattle.osc_live.specs.Seen.{past_of};
-ghost use Rattle.osc_live.specs.declared.refusal.EnrolRefusal.TheVariants.{CallersFull, RecordFull};
+ghost use Rattle.osc_live.specs.declared.guest.EnrolRefusal.TheVariants.{CallersFull, RecordFull};
 ghost use Rattle.osc_live.specs.Tokens.{IsOurs, IsOurGuest};
 ghost use Rattle.osc_life.specs.Holders.{Holder, Stays, holder_at};
 ghost use Rattle.osc_life.specs.Lives.{Lives, LivesUnder};

@@ -1,5 +1,6 @@
 -- A job on the server: what it finds, and what it leaves.
-use Rattle.std.proofs.Common.{◌≡◌, ℕ, ◌<◌, ◌≤◌, Bool, true, false, List, [], ◌∷◌, ◌++◌, length, length-append, Option, Some, None, MatchBool, refl, sym, ap}
+use Rattle.std.proofs.Common.{◌≡◌, ℕ, ◌<◌, ◌≤◌, Bool, true, false, List, [], ◌∷◌, ◌++◌, length, length-append, Option, Some, None, MatchBool, nat_lt, refl, sym}
+use Rattle.std.proofs.Common.{ap}
 use Rattle.std.proofs.Common.{subst, ◌∙◌, arith}
 use Rattle.std.specs.Prelude.{if◌then◌else◌, IsSomeAnd}
 use Rattle.std.specs.List.{cons_option}
@@ -21,6 +22,7 @@ use Rattle.osc_live.specs.Seen.{performance_in}
 use Rattle.osc_live.specs.Calls.{AddsText, Plays}
 use Rattle.osc_live.specs.Asked.{Did}
 use Rattle.std.proofs.lemmas.List.{append-nil}
+use Rattle.std.proofs.lemmas.Bool.{lt-ltb, le-ltb}
 
 -- The caller is enrolled.
 
@@ -51,7 +53,7 @@ last_is : (xs : List Entry) (x y : Entry) → xs ++ x ∷ [] ≡ xs ++ y ∷ [] 
 last_is [] x y e = cc
 last_is (z ∷ xs) x y e = last_is xs x y (let rest : xs ++ x ∷ [] ≡ xs ++ y ∷ [] = cc in rest)
 
--- what is read behind what was read is the last entry
+-- what is read after what was read is the last entry
 last_read : (before : List (List ℕ)) (text : List ℕ) (history : List Entry) (one : Entry) → history_in before ≡ history
     → history_in (before ++ text ∷ []) ≡ history ++ one ∷ [] → entry_in text ≡ Some one
 last_read before text history one is all =
@@ -100,6 +102,21 @@ plays caps old new boxes others caller event answer before after one two limits 
         let marked = last_written old.history before entry text (as_many old.history before one.written) written in
         record { text = text; mark = marked.0; last = last; text_is = marked.1; read = last_read before text old.history entry one.read read }
     go false adds is = is
+
+-- Whether an entry was added shows in how many there are.
+
+pub grows_by_one : (old new : Performance) (caller : ℕ) (event : Event) (before after : ℕ) → new ≡ onward old caller event → before ≡ length old.history
+    → after ≡ length new.history → nat_lt before after ≡ adds_entry (stepped_in old event).answer
+grows_by_one old new caller event before after onwards count_before count_after =
+    (λ i. nat_lt (count_before i) (count_after i)) ∙ ap (λ (p : Performance). nat_lt (length old.history) (length p.history)) onwards
+    ∙ go (adds_entry (stepped_in old event).answer)
+  where
+    one : Entry
+    one = record { caller = caller; event = event; answer = (stepped_in old event).answer }
+
+    go : (t : Bool) → nat_lt (length old.history) (length (if t then record old { history = old.history ++ one ∷ [] } else old).history) ≡ t
+    go true = lt-ltb _ _ (omega (arith, length-append old.history (one ∷ [])))
+    go false = le-ltb (length old.history) (length old.history) (omega arith)
 
 -- What was asked.
 

@@ -27,7 +27,8 @@ last_marked texts [] told are = are.0
 last_marked texts (first ∷ boxes) told are = last_marked texts boxes told are.1
 
 -- the entry of an added method has the mark of its box
-pub added_tells : {M : Type 0} (keep : M → Fixed) (heard : M → Option (List ℕ)) (answer : Adding M) (method : M) (performance : Performance) (old new : List Told)
+pub added_tells : {M : Type 0} (keep : M → Fixed) (heard : M → Option (List ℕ)) (answer : Adding M) (method : M) (performance : Performance)
+    (old new : List Told)
     (after : List (List ℕ)) → StandsFor performance new after
     → OnAdded answer (λ id. new ≡ old ++ reset (record { id = id; keep = keep method; heard = heard method }) ∷ [])
     → OnAdded answer (λ id. CarriesMark after id (mark_of (record { id = id; keep = keep method; heard = heard method })))

@@ -4,7 +4,7 @@ use Rattle.std.proofs.Common.{refl, sym, ap, subst, ◌∙◌, arith}
 use Rattle.std.proofs.lemmas.List.{append-nil, map-append, length-drop}
 use Rattle.std.proofs.lemmas.List.Sums.{sum_by-append}
 use Rattle.std.proofs.lemmas.List.Elements.{All-from_recursion, recursion_from_All, filter-append}
-use Rattle.std.specs.Prelude.{slice_get, Result, Ok, Err, IfOk, OnOk}
+use Rattle.std.specs.Prelude.{slice_get, Result, Ok, IfOk, OnOk}
 use Rattle.std.specs.List.{AllByRecursion, Contains, list_all, insert, flat_map, filter}
 use Rattle.std.specs.Option.{option_map}
 use Rattle.osc_laws.proofs.Members.{sent_from}

@@ -1,5 +1,5 @@
 -- Entries of a recording that are read one after another.
-use Rattle.std.proofs.Common.{◌≡◌, ℕ, ◌+◌, ◌<◌, ◌≤◌, Bool, List, [], ◌∷◌, ◌++◌, length, drop, Option, Some, None, Ok, Err, Result, refl, sym, ap, subst, ◌∙◌}
+use Rattle.std.proofs.Common.{◌≡◌, ℕ, ◌≤◌, List, [], ◌∷◌, ◌++◌, length, drop, Option, Some, None, Ok, Err, Result, refl, sym, ap, subst, ◌∙◌}
 use Rattle.std.proofs.Common.{arith, length-append}
 use Rattle.std.specs.Prelude.{⊤, IsTrue, is_ok, IfSome, IfNone}
 use Rattle.std.specs.Iterator.{YieldsFirstBy, MakesProgress, item_count}
@@ -24,7 +24,7 @@ use Rattle.osc_live.specs.Left.{AreRows, rows_in}
 some_is : {X : Type 0} (x y : X) → ◌≡◌ {A = Option X} (Some x) (Some y) → x ≡ y
 some_is x y same = cc
 
--- behind a header that is read stand the entries of the recording
+-- after a header that is read are the entries of the recording
 pub record Opened (left : Remaining) (caps : Limits) (history : List Recorded) : Type 0 where
   pub limits_are : left.caps ≡ caps
   pub read : entries_at Second left.caps.recording left.at left.rest ≡ Ok (placed_from header_size history)
@@ -35,7 +35,8 @@ opens bytes left caps history header is text =
     let all : List ℕ = flat_map (λ (e : Recorded). entry_text e.caller e.event e.answer) history in
     let one : header_text left.caps ++ left.rest ≡ header_text caps ++ all = sym header.text ∙ text in
     let limits : left.caps ≡ caps =
-    some_is left.caps caps (sym (header_again Second left.caps left.rest header.lawful) ∙ ap (header_read Second) one ∙ header_again Second caps all is.lawful) in
+    some_is left.caps caps (sym (header_again Second left.caps left.rest header.lawful) ∙ ap (header_read Second) one
+    ∙ header_again Second caps all is.lawful) in
     let rest : left.rest ≡ all =
     sym (drop_front (header_text left.caps) left.rest) ∙ (λ i. drop (length (header_text (limits i))) (one i)) ∙ drop_front (header_text caps) all in
     let below = range_below Second caps is.lawful in
@@ -111,7 +112,7 @@ err_not_ok : (r : Result (List Placed) ℕ) (at : ℕ) → r ≡ Err at → IsTr
 err_not_ok (Ok entries) at is ok = absurd (cc)
 err_not_ok (Err other) at is ok = absurd (cc)
 
--- what is left behind the next entry, if there is one
+-- what is left after the next entry, if there is one
 pub rows_stay : (old new : Remaining) (next : Option Entry) → AreRows old → IfSome next (λ entry. Reads old (placed_of entry) new)
     → IfNone next (new ≡ old) → AreRows new
 rows_stay old new None rows some none = subst AreRows (sym none) rows

@@ -57,7 +57,7 @@ IsAnswered caps caller event answer v w =
     MatchBool (adds_entry answer) (EndsWith caps caller event answer v w)
     (AddsNone caps event answer v w)
 
--- the token took the turn once, and besides that found words and saw entries
+-- the token took the turn once, and otherwise found words and saw entries
 abbrev pub TakesTurn : View → View → Type 0
 TakesTurn v w = w ≡ record v { seen = w.seen; olds = w.olds; words = w.words; taken = v.taken + 1 }
 

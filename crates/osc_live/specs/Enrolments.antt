@@ -4,8 +4,8 @@ use Rattle.osc_model.specs.Events.{Answer, number, callers_full, record_full}
 use Rattle.osc_record.specs.Shown.{room_of}
 use Rattle.osc_live.specs.declared.caller.Caller.{Caller}
 use Rattle.osc_live.specs.declared.guest.Guest.{Guest}
-use Rattle.osc_live.specs.declared.refusal.EnrolRefusal.{EnrolRefusal}
-use Rattle.osc_live.specs.declared.refusal.EnrolRefusal.TheVariants as refusal
+use Rattle.osc_live.specs.declared.guest.EnrolRefusal.{EnrolRefusal}
+use Rattle.osc_live.specs.declared.guest.EnrolRefusal.TheVariants as refusal
 
 -- why a guest isn't enrolled
 abbrev pub refusal_of : EnrolRefusal → Answer

@@ -7,8 +7,8 @@ ghost use Rattle.osc_live.specs.Seen.{history_of, names_own};
 
 use osc_turn::Pass;
 
-/// An enrolled caller's token. What it has seen is known in the proofs alone. A token that is dropped can't be handed
-/// in, so its server is never closed.
+/// An enrolled caller's token. What it has seen is known in the proofs alone. A token that is
+/// dropped can't be handed in, so its server is never closed.
 #[derive(Drop)]
 pub struct Caller {
     pub(crate) pass: Pass,

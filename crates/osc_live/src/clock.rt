@@ -8,13 +8,12 @@ ghost use Rattle.osc_live.specs.Tokens.{IsOurs};
 ghost use Rattle.osc_live.specs.Calls.{Calls, IsBusy};
 ghost use Rattle.osc_live.specs.Pumps.{Pumps};
 
-use crate::busy::Busy;
+use crate::ask::Ask;
 use crate::caller::Caller;
 use crate::live::Live;
 use crate::pumped::{PumpEnd, Pumped};
-use crate::release::Release;
-use crate::tick::Tick;
-use osc_core::{Releasing, Ticking};
+use crate::turns::Busy;
+use osc_core::{Core, Releasing, Ticking};
 use osc_method::Method;
 use std::sync::Wait;
 use std::thread;
@@ -106,13 +105,56 @@ impl<M: Method> Live<M> {
     }
 }
 
-/// After so many releases of a pump, or after one with so many calls, the turn is offered to whoever waits for it.
-/// To yield takes as long as a release with one call.
+/// After so many releases of a pump, or after one with so many calls, the turn is offered to
+/// whoever waits for it. To yield takes as long as a release with one call.
 const OFFERED_AFTER: u32 = 8;
 
-/// Offers the turn to whoever waits for it, after the release with this number, which made so many calls.
+/// Offers the turn to whoever waits for it, after the release with this number, which made so many
+/// calls.
 fn offer_turn(released: u32, calls: u32) {
     if released % OFFERED_AFTER == 0 || calls >= OFFERED_AFTER {
         thread::yield_now();
+    }
+}
+
+/// A moment that is handed in.
+#[derive(Drop)]
+struct Tick {
+    now: u64,
+}
+
+impl<M: Method> Ask<M, Ticking> for Tick {
+    ghost use Rattle.std.specs.Prelude.{◌≡◌};
+    ghost use Rattle.osc_model.specs.Events.{tick};
+    ghost use Rattle.osc_core.specs.Answers.{ticking_of};
+
+    ghost event = { λ asked. tick asked.now };
+
+    ghost says = { λ given answer. answer ≡ ticking_of given };
+
+    ghost tells = { λ asked given caps after. Unit {0} };
+
+    fn ask(self, caller: u32, core: &mut Core<M>) -> Ticking {
+        core.tick(caller, self.now)
+    }
+}
+
+/// A release that is asked for.
+#[derive(Drop)]
+struct Release;
+
+impl<M: Method> Ask<M, Releasing> for Release {
+    ghost use Rattle.std.specs.Prelude.{◌≡◌};
+    ghost use Rattle.osc_model.specs.Events.{release};
+    ghost use Rattle.osc_core.specs.Answers.{TellsRelease};
+
+    ghost event = { λ asked. release };
+
+    ghost says = { λ given answer. TellsRelease given answer };
+
+    ghost tells = { λ asked given caps after. Unit {0} };
+
+    fn ask(self, caller: u32, core: &mut Core<M>) -> Releasing {
+        core.release(caller)
     }
 }

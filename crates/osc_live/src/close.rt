@@ -17,8 +17,8 @@ use osc_method::Method;
 use osc_turn::Pass;
 use std::alloc::Global;
 
-/// Why a server isn't closed. It comes back, and with it the tokens that were handed in, as they were and in their
-/// order.
+/// Why a server isn't closed. It comes back, and with it the tokens that were handed in, as they
+/// were and in their order.
 #[derive(Drop)]
 pub enum LiveOut<M: Method> {
     /// There is no memory for the list of passes.
@@ -52,8 +52,8 @@ impl<M: Method> Live<M> {
         (Caller { pass, number }, made)
     }
 
-    /// Ends the server where all tokens that were made are handed in, caller 0 in the first place, and hands out its
-    /// recording, and its boxes with what they heard.
+    /// Ends the server where all tokens that were made are handed in, caller 0 in the first place,
+    /// and hands out its recording, and its boxes with what they heard.
     pub fn close(
         self,
         alloc: Global,

@@ -22,7 +22,8 @@ pub struct Live<M: Method> {
 }
 
 impl<M: Method> Live<M> {
-    /// A server with these limits, and the token of caller 0. The `Err` means that there is no memory for it.
+    /// A server with these limits, and the token of caller 0. The `Err` means that there is no
+    /// memory for it.
     pub fn open(alloc: Global, caps: Caps) -> Result<(Live<M>, Caller), AllocError>
         ensures limits { IfOk result (λ opened. opened.0.caps ≡ caps) }
         ensures ours { IfOk result (λ opened. IsOurs opened.0 opened.1) }

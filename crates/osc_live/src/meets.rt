@@ -11,7 +11,8 @@ use crate::live::Live;
 use osc_method::Method;
 
 impl<M: Method> Live<M> {
-    /// Tells `into` what `from` has seen. Of what the two have seen, one list begins with the other.
+    /// Tells `into` what `from` has seen. Of what the two have seen, one list begins with the
+    /// other.
     pub fn meet(&self, from: Caller, into: Caller) -> (Caller, Caller)
         requires from_ours { IsOurs self.now from }
         requires into_ours { IsOurs self.now into }

@@ -10,7 +10,8 @@ use osc_atoms::Room;
 /// Why a pump ended: what its last release was answered.
 #[derive(Clone, Copy, Debug, PartialEq, Eq)]
 pub enum PumpEnd {
-    /// No unit is due. `next` is the least due moment in the queue, `None` where the queue is empty.
+    /// No unit is due. `next` is the least due moment in the queue, `None` where the queue is
+    /// empty.
     NothingDue { next: Option<u64> },
     /// The entry of the release has more bytes than the recording has left.
     RecordFull(Room),

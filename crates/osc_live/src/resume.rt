@@ -1,9 +1,5 @@
 //! How a server goes on from a recording.
-ghost use Rattle.std.specs.Prelude.{◌≡◌, ◌≤◌, ◌<◌, ◌+◌, ◌++◌, [], List, All};
-ghost use Rattle.std.specs.Prelude.{length, option_to_list, option_map, IfOk, IfErr, OnOk, OnErr};
-ghost use Rattle.std.specs.Prelude.{IsTrue, ℕ};
-ghost use Rattle.std.specs.Prelude.{vec_len, vec_capacity};
-ghost use Rattle.std.specs.VecDeque.{deque_capacity};
+ghost use Rattle.std.specs.Prelude.{◌≡◌, ◌≤◌, [], List, All, length, IfOk, IfErr, vec_capacity};
 ghost use Rattle.osc_turn.specs.Passes.{view};
 ghost use Rattle.osc_turn.specs.Rule.{reopening};
 ghost use Rattle.osc_turn.specs.declared.limits.TheConstants.{MAX_PASSES};
@@ -11,29 +7,22 @@ ghost use Rattle.osc_model.specs.Limits.{Limits, header_size, max_recording};
 ghost use Rattle.osc_model.specs.Events.{Entry as Recorded};
 ghost use Rattle.osc_model.specs.Enrolled.{callers_in};
 ghost use Rattle.osc_model.specs.Recordings.{header_text};
-ghost use Rattle.osc_model.specs.History.{IsLawful, Legal, state_of, stepped_in};
-ghost use Rattle.osc_record.specs.Left.{placed_of};
-ghost use Rattle.osc_record.specs.Reading.{unplaced};
-ghost use Rattle.osc_record.specs.Shown.{event_of, answer_of};
-ghost use Rattle.osc_core.specs.Redoing.{with_entry};
 ghost use Rattle.osc_core.specs.Standing.{history_in};
 ghost use Rattle.osc_core.specs.Telling.{told};
 ghost use Rattle.osc_live.specs.Seen.{IsTokenOf, past_of};
 ghost use Rattle.osc_live.specs.Tokens.{IsOurs};
 ghost use Rattle.osc_live.specs.Closing.{known};
-ghost use Rattle.osc_live.specs.Resuming.{Records, CanResume, Resumes, roomier, needed_by};
-ghost use Rattle.osc_live.specs.Resuming.{takes_box, added_in, all_resumed};
-ghost use Rattle.osc_live.specs.Resuming.{HaveHeardAll, marks};
-ghost use Rattle.osc_live.specs.Redone.{Takes, Moves, IsRedone, IsOut};
-ghost use Rattle.osc_live.specs.Redone.{TakesOut, TakesEither};
+ghost use Rattle.osc_live.specs.Resuming.{Records, CanResume, Resumes, HaveHeardAll};
+ghost use Rattle.osc_live.specs.Resuming.{roomier, all_resumed, marks};
 
+use crate::back::put_back;
 use crate::caller::Caller;
 use crate::live::Live;
+use crate::redo::redo_all;
 use crate::rows::Rows;
 use osc_core::Core;
 use osc_method::Method;
-use osc_pattern::Address;
-use osc_record::{Answer, Caps, Entry, Event};
+use osc_record::Caps;
 use osc_turn::{Pass, Turn};
 use std::alloc::{AllocError, Global};
 use std::collections::VecDeque;
@@ -52,9 +41,10 @@ pub struct LiveResumed<M: Method> {
 }
 
 impl<M: Method> Live<M> {
-    /// Takes up the server that a recording leaves, with room for so many bytes of recording at least. The boxes of the
-    /// bank are those of the added methods, in order, and hear the invocations of the recording again. The `Err` means
-    /// that there is no memory, and hands all boxes back, in their order.
+    /// Takes up the server that a recording leaves, with room for so many bytes of recording at
+    /// least. The boxes of the bank are those of the added methods, in order, and hear the
+    /// invocations of the recording again. The `Err` means that there is no memory, and hands all
+    /// boxes back, in their order.
     pub fn resume(
         alloc: Global,
         recording: &[u8],
@@ -185,183 +175,4 @@ fn set_stage<M: Method>(alloc: Global, caps: Caps) -> Result<Stage<M>, AllocErro
         removed: Vec::new(alloc),
         callers,
     })
-}
-
-/// The address that is handed in again with an entry.
-fn address_needed<'a>(entry: &Entry<'a>) -> Option<&'a [u8]>
-    ensures { option_map (λ bytes. bytes.now) result
-        ≡ needed_by (event_of entry.now.event) (answer_of entry.now.answer) }
-{
-    match entry.event {
-        Event::Add(bytes) if matches!(entry.answer, Answer::Added(_)) => Some(bytes),
-        Event::Remove(bytes) if matches!(entry.answer, Answer::Removed(_)) => Some(bytes),
-        _ => None,
-    }
-}
-
-/// Whether a box is handed in again with an entry.
-fn box_needed(entry: &Entry<'_>) -> bool
-    ensures { result ≡ takes_box (event_of entry.now.event) (answer_of entry.now.answer) }
-{
-    match entry.event {
-        Event::Add(_) => matches!(entry.answer, Answer::Added(_)),
-        _ => false,
-    }
-}
-
-/// The address that is handed in again with an entry, in memory of its own.
-fn copy_address(alloc: Global, entry: &Entry<'_>) -> Result<Option<Address>, AllocError>
-    ensures { IfOk result (λ address. address
-        ≡ needed_by (event_of entry.now.event) (answer_of entry.now.answer)) }
-{
-    match address_needed(entry) {
-        Some(bytes) => match Address::read(alloc, bytes) {
-            Ok(address) => Ok(Some(address)),
-            Err(_) => Err(AllocError),
-        },
-        None => Ok(None),
-    }
-}
-
-/// The box that an entry needs, which is the first of those that are left.
-fn take_box<M: Method>(entry: &Entry<'_>, bank: &mut VecDeque<M>) -> Option<M>
-    requires { IsTrue (takes_box (event_of entry.now.event) (answer_of entry.now.answer))
-        → 0 < length bank.old.items }
-    ensures takes { Takes (takes_box (event_of entry.now.event) (answer_of entry.now.answer)) result
-        bank.old.items bank.new.items }
-    ensures capacity { deque_capacity bank.new ≡ deque_capacity bank.old }
-{
-    if box_needed(entry) {
-        return bank.pop_front();
-    }
-    None
-}
-
-/// Plays an entry again, with the address and the box that it needs. An `Err` means out of memory, and that nothing was
-/// played.
-fn redo_one<M: Method>(
-    alloc: Global,
-    core: &mut Core<M>,
-    entry: &Entry<'_>,
-    bank: &mut VecDeque<M>,
-    removed: &mut Vec<(u32, M)>,
-) -> Result<(), AllocError>
-    requires caller { entry.now.caller < (state_of core.old.performance).callers }
-    requires lawful { IsLawful (event_of entry.now.event) }
-    requires answer { answer_of entry.now.answer
-        ≡ (stepped_in core.old.performance (event_of entry.now.event)).answer }
-    requires method { IsTrue (takes_box (event_of entry.now.event) (answer_of entry.now.answer))
-        → 0 < length bank.old.items }
-    ensures performance { OnOk result
-        (core.new.performance ≡ with_entry core.old.performance (placed_of entry.now).entry) }
-    ensures moves { OnOk result
-        (Moves M.keep M.heard (event_of entry.now.event) (answer_of entry.now.answer)
-        (stepped_in core.old.performance (event_of entry.now.event)).invocations bank.old.items
-        bank.new.items (told M.keep M.heard core.old.boxes.items)
-        (told M.keep M.heard core.new.boxes.items) removed.old.items removed.new.items) }
-    ensures still { OnErr result ((core.new ≡ core.old) × (bank.new.items ≡ bank.old.items)
-        × (removed.new.items ≡ removed.old.items)) }
-    ensures capacity { deque_capacity bank.new ≡ deque_capacity bank.old }
-{
-    let address = copy_address(alloc, entry)?;
-    removed.reserve(1)?;
-    let method = take_box(entry, bank);
-    let out = core.redo(entry, address, method);
-    let Some(method) = out else {
-        return Ok(());
-    };
-    let Answer::Removed(id) = entry.answer else {
-        unreachable!()
-    };
-    removed.push_reserved((id, method));
-    Ok(())
-}
-
-/// Plays the entries of a history again, on a server that has played none. An `Err` means out of memory: the first of
-/// them were played, and some are left.
-fn redo_all<M: Method>(
-    alloc: Global,
-    core: &mut Core<M>,
-    rows: Rows<'_>,
-    bank: &mut VecDeque<M>,
-    removed: &mut Vec<(u32, M)>,
-) -> Result<(), AllocError>
-    requires legal { Legal core.old.performance.caps (unplaced rows) }
-    requires empty { (core.old.performance.history ≡ [])
-        × (told M.keep M.heard core.old.boxes.items ≡ []) × (removed.old.items ≡ []) }
-    requires bank { added_in (unplaced rows) ≤ length bank.old.items }
-    ensures redone { OnOk result (IsRedone M.keep M.heard core.old.performance.caps
-        (unplaced rows.entry) bank.old.items [] core.new.performance
-        (told M.keep M.heard core.new.boxes.items) bank.new.items removed.new.items) }
-    ensures stopped { OnErr result ((left : List Recorded)
-        × IsRedone M.keep M.heard core.old.performance.caps (unplaced rows.entry)
-        bank.old.items left core.new.performance (told M.keep M.heard core.new.boxes.items)
-        bank.new.items removed.new.items) }
-    ensures capacity { deque_capacity bank.new ≡ deque_capacity bank.old }
-{
-    for entry in rows {
-        redo_one(alloc, core, &entry, bank, removed)?;
-    }
-    Ok(())
-}
-
-/// All boxes, in the order of the bank: so many of them were taken from it.
-fn put_back<M: Method>(
-    core: Core<M>,
-    mut removed: Vec<(u32, M)>,
-    mut bank: VecDeque<M>,
-    taken: u32,
-) -> Vec<M>
-    ensures { (whole : List M) → IsOut M.keep M.heard whole
-        (told M.keep M.heard core.boxes.items) removed.items bank.items taken
-        (deque_capacity bank) → marks M.keep M.heard result.items ≡ marks M.keep M.heard whole }
-{
-    let mut kept = core.close().kept;
-    let mut id = taken;
-    while id > 0 {
-        id -= 1;
-        let method = take_either(&mut kept, &mut removed, id);
-        put_first(&mut bank, method);
-    }
-    bank.into_vec()
-}
-
-/// Puts a box before the others, if there is one and room for it.
-fn put_first<M: Method>(bank: &mut VecDeque<M>, method: Option<M>)
-    ensures items { length bank.old.items < deque_capacity bank.old
-        → bank.new.items ≡ option_to_list method ++ bank.old.items }
-    ensures capacity { deque_capacity bank.old ≤ deque_capacity bank.new }
-{
-    if let Some(method) = method {
-        let _ = bank.push_front(method);
-    }
-}
-
-/// Takes the box of an id out of boxes, or else out of others, where it is among them.
-fn take_either<M: Method>(
-    boxes: &mut Vec<(u32, M)>,
-    others: &mut Vec<(u32, M)>,
-    id: u32,
-) -> Option<M>
-    ensures { TakesEither id boxes.old.items boxes.new.items others.old.items others.new.items
-        result }
-{
-    match take_of(boxes, id) {
-        Some(method) => Some(method),
-        None => take_of(others, id),
-    }
-}
-
-/// Takes the box of an id out of boxes, where it is among them.
-fn take_of<M: Method>(boxes: &mut Vec<(u32, M)>, id: u32) -> Option<M>
-    ensures { TakesOut id boxes.old.items boxes.new.items result }
-{
-    let mut place = boxes.len();
-    while place > 0 {
-        place -= 1;
-        if boxes[place].0 == id {
-            return Some(boxes.remove(place).1);
-        }
-    }
-    None
 }

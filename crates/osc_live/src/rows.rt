@@ -5,8 +5,8 @@ ghost use Rattle.osc_live.specs.Left.{AreRows};
 use osc_record::{Caps, Entry, Unread};
 use std::marker::Model;
 
-/// The entries of a recording that aren't read yet, in order. None is looked at before its turn. A contract sees each at
-/// its place.
+/// The entries of a recording that aren't read yet, in order. None is looked at before its turn. A
+/// contract sees each at its place.
 #[derive(Drop)]
 pub(crate) struct Rows<'a> {
     unread: Unread<'a>,

@@ -1,4 +1,4 @@
-// How a caller's event is played in its turn.
+//! How a caller's event is played in its turn.
 ghost use Rattle.std.specs.Prelude.{◌≡◌, IfOk, IfErr};
 ghost use Rattle.osc_turn.specs.History.{texts};
 ghost use Rattle.osc_turn.specs.Passes.{view};
@@ -8,14 +8,19 @@ ghost use Rattle.osc_live.specs.Tokens.{IsOurs};
 ghost use Rattle.osc_live.specs.Calls.{Calls, IsBusy};
 
 use crate::ask::Ask;
-use crate::asked::Asking;
-use crate::busy::Busy;
 use crate::caller::Caller;
 use crate::live::Live;
-use crate::play::Playing;
+use crate::play::{Asking, Playing};
 use osc_method::Method;
 use osc_turn::Tried;
 use std::sync::Wait;
+
+/// Another call had the turn, or took it first.
+#[derive(Clone, Copy, PartialEq, Eq, Debug)]
+pub struct Busy {
+    /// The turn's word that was found last.
+    pub found: u64,
+}
 
 impl<M: Method> Live<M> {
     /// Waits for the turn, and plays the event.

@@ -16,8 +16,8 @@ use Rattle.osc_turn.specs.Numbers.{only, times}
 use Rattle.osc_turn.specs.Passes.{view}
 use Rattle.osc_turn.specs.Rule.{number_of}
 use Rattle.osc_live.specs.declared.caller.Caller.{Caller}
-use Rattle.osc_live.specs.declared.refusal.EnrolRefusal.{EnrolRefusal}
-use Rattle.osc_live.specs.declared.refusal.EnrolRefusal.TheVariants as refusal
+use Rattle.osc_live.specs.declared.guest.EnrolRefusal.{EnrolRefusal}
+use Rattle.osc_live.specs.declared.guest.EnrolRefusal.TheVariants as refusal
 use Rattle.osc_live.specs.Calls.{Calls}
 use Rattle.osc_live.specs.Closing.{Closes}
 use Rattle.osc_live.specs.Enrolments.{refusal_of}

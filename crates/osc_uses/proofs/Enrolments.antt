@@ -9,7 +9,7 @@ use Rattle.osc_model.specs.Limits.{Limits}
 use Rattle.osc_model.specs.Events.{enrol, number}
 use Rattle.osc_record.specs.Reading.{entry_in}
 use Rattle.osc_live.specs.declared.caller.Caller.{Caller}
-use Rattle.osc_live.specs.declared.refusal.EnrolRefusal.{EnrolRefusal}
+use Rattle.osc_live.specs.declared.guest.EnrolRefusal.{EnrolRefusal}
 use Rattle.osc_live.specs.Calls.{Calls}
 use Rattle.osc_live.specs.Enrolments.{refusal_of}
 use Rattle.osc_uses.specs.Live.{Enrols, HasEnrolled, IsEnrolment, IsRefused, own_entries}

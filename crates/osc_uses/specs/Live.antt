@@ -21,8 +21,8 @@ use Rattle.osc_live.specs.declared.pumped.Pumped.{Pumped}
 use Rattle.osc_live.specs.declared.close.LiveOut.{LiveOut}
 use Rattle.osc_live.specs.declared.close.LiveOut.TheVariants.{NoMemory, StillOut}
 use Rattle.osc_live.specs.declared.caller.Caller.{Caller}
-use Rattle.osc_live.specs.declared.refusal.EnrolRefusal.{EnrolRefusal}
-use Rattle.osc_live.specs.declared.refusal.EnrolRefusal.TheVariants as refusal
+use Rattle.osc_live.specs.declared.guest.EnrolRefusal.{EnrolRefusal}
+use Rattle.osc_live.specs.declared.guest.EnrolRefusal.TheVariants as refusal
 use Rattle.osc_live.specs.Enrolments.{refusal_of}
 use Rattle.osc_live.specs.Tokens.{IsOurs}
 use Rattle.osc_live.specs.declared.live.Live.{Live}

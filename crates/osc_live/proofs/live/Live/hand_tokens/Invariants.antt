@@ -5,7 +5,7 @@ use Rattle.osc_live.specs.Closing.{known}
 use Rattle.osc_live.specs.Resuming.{first_resumed, others_resumed}
 use Rattle.osc_live.proofs.live.Live.hand_tokens.Given as goal
 
--- the tokens so far, beside the first one
+-- the tokens so far, without the first one
 abbrev pub invariant-loop-number : goal.invariant-loop-number
 invariant-loop-number g l = record {
   ours : IsTokenOf l.self.turn l.self.caps l.pass;

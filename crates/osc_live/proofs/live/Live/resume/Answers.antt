@@ -95,7 +95,8 @@ hand_tokens-callers-requires-clause-room g c =
     let redone : IsRedone keep heard limits can.1 bank [] core.performance boxes c.redo_all-redone.new.bank.items
     c.redo_all-redone.new.removed.items =
     subst (λ (z : Limits × List Recorded × List g.row.M.Denot). IsRedone keep heard z.0 z.1 z.2 [] core.performance boxes
-    c.redo_all-redone.new.bank.items c.redo_all-redone.new.removed.items) (λ i. (limits_are i, entries i, c.from_vec-bank.ensures.items i)) c.in_default.ensures.redone in
+    c.redo_all-redone.new.bank.items c.redo_all-redone.new.removed.items) (λ i. (limits_are i, entries i, c.from_vec-bank.ensures.items i))
+    c.in_default.ensures.redone in
     let whole : core.performance ≡ record { caps = limits; history = can.1 } =
     performance_is keep heard limits can.1 bank core.performance boxes c.redo_all-redone.new.bank.items c.redo_all-redone.new.removed.items
     redone in
@@ -130,7 +131,8 @@ hand_tokens-callers-requires-clause-few g c =
     let redone : IsRedone keep heard limits can.1 bank [] core.performance boxes c.redo_all-redone.new.bank.items
     c.redo_all-redone.new.removed.items =
     subst (λ (z : Limits × List Recorded × List g.row.M.Denot). IsRedone keep heard z.0 z.1 z.2 [] core.performance boxes
-    c.redo_all-redone.new.bank.items c.redo_all-redone.new.removed.items) (λ i. (limits_are i, entries i, c.from_vec-bank.ensures.items i)) c.in_default.ensures.redone in
+    c.redo_all-redone.new.bank.items c.redo_all-redone.new.removed.items) (λ i. (limits_are i, entries i, c.from_vec-bank.ensures.items i))
+    c.in_default.ensures.redone in
     let whole : core.performance ≡ record { caps = limits; history = can.1 } =
     performance_is keep heard limits can.1 bank core.performance boxes c.redo_all-redone.new.bank.items c.redo_all-redone.new.removed.items
     redone in
@@ -164,7 +166,8 @@ hand_tokens-callers-requires-clause-enrolled g c =
     let redone : IsRedone keep heard limits can.1 bank [] core.performance boxes c.redo_all-redone.new.bank.items
     c.redo_all-redone.new.removed.items =
     subst (λ (z : Limits × List Recorded × List g.row.M.Denot). IsRedone keep heard z.0 z.1 z.2 [] core.performance boxes
-    c.redo_all-redone.new.bank.items c.redo_all-redone.new.removed.items) (λ i. (limits_are i, entries i, c.from_vec-bank.ensures.items i)) c.in_default.ensures.redone in
+    c.redo_all-redone.new.bank.items c.redo_all-redone.new.removed.items) (λ i. (limits_are i, entries i, c.from_vec-bank.ensures.items i))
+    c.in_default.ensures.redone in
     let whole : core.performance ≡ record { caps = limits; history = can.1 } =
     performance_is keep heard limits can.1 bank core.performance boxes c.redo_all-redone.new.bank.items c.redo_all-redone.new.removed.items
     redone in
@@ -201,7 +204,8 @@ returns-in-Ok-reopen-clause-resumes g c caps history records =
     let redone : IsRedone keep heard limits history bank [] core.performance boxes c.redo_all-redone.new.bank.items
     c.redo_all-redone.new.removed.items =
     subst (λ (z : Limits × List Recorded × List g.row.M.Denot). IsRedone keep heard z.0 z.1 z.2 [] core.performance boxes
-    c.redo_all-redone.new.bank.items c.redo_all-redone.new.removed.items) (λ i. (limits_are i, entries i, c.from_vec-bank.ensures.items i)) c.in_default.ensures.redone in
+    c.redo_all-redone.new.bank.items c.redo_all-redone.new.removed.items) (λ i. (limits_are i, entries i, c.from_vec-bank.ensures.items i))
+    c.in_default.ensures.redone in
     let whole : core.performance ≡ record { caps = limits; history = history } =
     performance_is keep heard limits history bank core.performance boxes c.redo_all-redone.new.bank.items c.redo_all-redone.new.removed.items
     redone in
@@ -239,7 +243,8 @@ returns-in-Ok-reopen-clause-heard g c caps history records =
     let redone : IsRedone keep heard limits history bank [] core.performance boxes c.redo_all-redone.new.bank.items
     c.redo_all-redone.new.removed.items =
     subst (λ (z : Limits × List Recorded × List g.row.M.Denot). IsRedone keep heard z.0 z.1 z.2 [] core.performance boxes
-    c.redo_all-redone.new.bank.items c.redo_all-redone.new.removed.items) (λ i. (limits_are i, entries i, c.from_vec-bank.ensures.items i)) c.in_default.ensures.redone in
+    c.redo_all-redone.new.bank.items c.redo_all-redone.new.removed.items) (λ i. (limits_are i, entries i, c.from_vec-bank.ensures.items i))
+    c.in_default.ensures.redone in
     let whole : core.performance ≡ record { caps = limits; history = history } =
     performance_is keep heard limits history bank core.performance boxes c.redo_all-redone.new.bank.items c.redo_all-redone.new.removed.items
     redone in
@@ -299,9 +304,11 @@ returns-in-Err-redone-clause-back g c =
     let bank = c.args.bank.items in
     let core = c.redo_all-redone.new.core in
     let boxes = told keep heard core.boxes.items in
-    let redone : IsRedone keep heard limits can.1 bank c.in-Err-redone.ensures.stopped.0 core.performance boxes c.redo_all-redone.new.bank.items c.redo_all-redone.new.removed.items =
+    let redone : IsRedone keep heard limits can.1 bank c.in-Err-redone.ensures.stopped.0 core.performance boxes c.redo_all-redone.new.bank.items
+    c.redo_all-redone.new.removed.items =
     subst (λ (z : Limits × List Recorded × List g.row.M.Denot). IsRedone keep heard z.0 z.1 z.2 c.in-Err-redone.ensures.stopped.0 core.performance boxes
-    c.redo_all-redone.new.bank.items c.redo_all-redone.new.removed.items) (λ i. (limits_are i, entries i, c.from_vec-bank.ensures.items i)) c.in-Err-redone.ensures.stopped.1 in
+    c.redo_all-redone.new.bank.items c.redo_all-redone.new.removed.items) (λ i. (limits_are i, entries i, c.from_vec-bank.ensures.items i))
+    c.in-Err-redone.ensures.stopped.1 in
     let fewer : length c.redo_all-redone.new.bank.items ≤ length bank =
     omega (arith, ap length redone.rest_is, length-drop (added_in redone.before) bank) in
     let whole_len : c.len-whole.result ≡ length bank = omega (arith, c.len-whole.ensures, c.args.bank.ok) in
@@ -310,7 +317,8 @@ returns-in-Err-redone-clause-back g c =
     omega (arith, fewer, whole_len, rest_len) in
     let fits : length bank ≤ deque_capacity c.redo_all-redone.new.bank =
     omega (arith, c.redo_all-redone.ensures.capacity, c.from_vec-bank.ensures.capacity, c.args.bank.ok, c.args.bank.small) in
-    let out = is_out keep heard limits can.1 bank c.in-Err-redone.ensures.stopped.0 core.performance boxes c.redo_all-redone.new.bank.items c.redo_all-redone.new.removed.items
+    let out = is_out keep heard limits can.1 bank c.in-Err-redone.ensures.stopped.0 core.performance boxes c.redo_all-redone.new.bank.items
+    c.redo_all-redone.new.removed.items
     (c.len-whole.result - c.len.result) (deque_capacity c.redo_all-redone.new.bank) can.3 redone counted fits in
     c.put_back.ensures bank out
 
@@ -369,11 +377,13 @@ returns-in-Err-reopen-clause-back g c =
     let boxes = told keep heard core.boxes.items in
     let redone : IsRedone keep heard limits can.1 bank [] core.performance boxes c.redo_all-redone.new.bank.items c.redo_all-redone.new.removed.items =
     subst (λ (z : Limits × List Recorded × List g.row.M.Denot). IsRedone keep heard z.0 z.1 z.2 [] core.performance boxes
-    c.redo_all-redone.new.bank.items c.redo_all-redone.new.removed.items) (λ i. (limits_are i, entries i, c.from_vec-bank.ensures.items i)) c.in_default.ensures.redone in
+    c.redo_all-redone.new.bank.items c.redo_all-redone.new.removed.items) (λ i. (limits_are i, entries i, c.from_vec-bank.ensures.items i))
+    c.in_default.ensures.redone in
     let fewer : length c.redo_all-redone.new.bank.items ≤ length bank =
     omega (arith, ap length redone.rest_is, length-drop (added_in redone.before) bank) in
     let whole_len : c.len-whole.result ≡ length bank = omega (arith, c.len-whole.ensures, c.args.bank.ok) in
-    let rest_len : c.len-in-Err-reopen.result ≡ length c.redo_all-redone.new.bank.items = omega (arith, c.len-in-Err-reopen.ensures, c.redo_all-redone.new.bank.ok.0) in
+    let rest_len : c.len-in-Err-reopen.result ≡ length c.redo_all-redone.new.bank.items = omega
+    (arith, c.len-in-Err-reopen.ensures, c.redo_all-redone.new.bank.ok.0) in
     let counted : (c.len-whole.result - c.len-in-Err-reopen.result) + length c.redo_all-redone.new.bank.items ≡ length bank =
     omega (arith, fewer, whole_len, rest_len) in
     let fits : length bank ≤ deque_capacity c.redo_all-redone.new.bank =
@@ -383,4 +393,5 @@ returns-in-Err-reopen-clause-back g c =
     let same_core : c.in-Err-reopen.core ≡ core = c.in-Err-reopen.ensures.err in
     c.put_back-in-Err-reopen.ensures bank
     (subst (λ (l : List Told). IsOut keep heard bank l c.redo_all-redone.new.removed.items c.redo_all-redone.new.bank.items
-    (c.len-whole.result - c.len-in-Err-reopen.result) (deque_capacity c.redo_all-redone.new.bank)) (sym (ap (λ x. told keep heard x.boxes.items) same_core)) out)
+    (c.len-whole.result - c.len-in-Err-reopen.result) (deque_capacity c.redo_all-redone.new.bank)) (sym (ap (λ x. told keep heard x.boxes.items) same_core))
+    out)

@@ -1,6 +1,6 @@
 use Rattle.std.proofs.Common.{refl}
 use Rattle.osc_live.proofs.Copies.{copied}
-use Rattle.osc_live.proofs.copy.CopyingJobCore.run.Goals as goal
+use Rattle.osc_live.proofs.reads.CopyingJobCore.run.Goals as goal
 
 pub returns-clause-did : goal.returns-clause-did
 returns-clause-did g c before after one starts two same =

@@ -3,7 +3,7 @@ use Rattle.osc_model.specs.Events.{submit}
 use Rattle.osc_model.specs.History.{Performance}
 use Rattle.osc_model.proofs.Onward.{caps_stay}
 use Rattle.osc_live.proofs.Marks.{clock_there}
-use Rattle.osc_live.proofs.submit.ClockedSubmitAskSubmission.ask.Goals as goal
+use Rattle.osc_live.proofs.submission.ClockedSubmitAskSubmission.ask.Goals as goal
 
 pub returns-clause-tells : goal.returns-clause-tells
 returns-clause-tells g c before after one two starts =

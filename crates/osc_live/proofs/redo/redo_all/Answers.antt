@@ -1,4 +1,4 @@
-use Rattle.std.proofs.Common.{rules, ◌≡◌, ◌≤◌, List, ◌∷◌, length, ap, subst, refl, sym, ◌∙◌, arith}
+use Rattle.std.proofs.Common.{rules, ◌≡◌, ◌≤◌, List, ◌∷◌, length, ap, subst, refl, ◌∙◌}
 use Rattle.osc_model.specs.Events.{Entry as Recorded}
 use Rattle.osc_model.specs.History.{Legal}
 use Rattle.osc_record.specs.Left.{placed_of}
@@ -7,7 +7,7 @@ use Rattle.osc_core.specs.Telling.{told}
 use Rattle.osc_live.specs.Resuming.{added_in}
 use Rattle.osc_live.specs.Redone.{IsRedone}
 use Rattle.osc_live.proofs.PlayedAgain.{asks, redone_none, redone_more}
-use Rattle.osc_live.proofs.resume.redo_all.Goals as goal
+use Rattle.osc_live.proofs.redo.redo_all.Goals as goal
 
 pub redo_one-requires-clause-caller : goal.redo_one-requires-clause-caller
 redo_one-requires-clause-caller g c =
@@ -85,7 +85,8 @@ loop-entry-preserved g c =
       can = tt;
       finite = tt;
       redone = redone_more keep heard caps history c.args.bank.now.items entry left c.loop-entry.core.performance c.redo_one.new.core.performance _
-          (told keep heard c.loop-entry.core.boxes.items) (told keep heard c.redo_one.new.core.boxes.items) c.loop-entry.bank.items c.redo_one.new.bank.items c.loop-entry.removed.items c.redo_one.new.removed.items legal
+          (told keep heard c.loop-entry.core.boxes.items) (told keep heard c.redo_one.new.core.boxes.items) c.loop-entry.bank.items c.redo_one.new.bank.items
+          c.loop-entry.removed.items c.redo_one.new.removed.items legal
           c.loop-entry.core.heard is
           c.in_ok-redo_one.ensures.performance c.in_ok-redo_one.ensures.moves;
       capacity = c.redo_one.ensures.capacity ∙ c.loop-entry.invariant.capacity;

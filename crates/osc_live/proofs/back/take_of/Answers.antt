@@ -2,7 +2,7 @@ use Rattle.std.proofs.Common.{rules, ◌≡◌, ◌≢◌, ℕ, ◌-◌, ◌<◌
 use Rattle.osc_live.specs.Redone.{TakesOut}
 use Rattle.std.specs.List.{AllByRecursion}
 use Rattle.osc_live.proofs.Backs.{taken_out, none_out, all_dropped, none_more, default_free}
-use Rattle.osc_live.proofs.resume.take_of.Goals as goal
+use Rattle.osc_live.proofs.back.take_of.Goals as goal
 
 pub loop-place-init : goal.loop-place-init
 loop-place-init g c = record {

@@ -1,9 +1,9 @@
 use Rattle.std.specs.VecDeque.{deque_capacity}
-use Rattle.std.proofs.Common.{◌≡◌, ◌≤◌, ◌+◌, length, vec_len, vec_capacity}
+use Rattle.std.proofs.Common.{◌≡◌}
 use Rattle.osc_record.specs.Reading.{unplaced}
 use Rattle.osc_core.specs.Telling.{told}
 use Rattle.osc_live.specs.Redone.{IsRedone}
-use Rattle.osc_live.proofs.resume.redo_all.Given as goal
+use Rattle.osc_live.proofs.redo.redo_all.Given as goal
 
 -- the entries so far are played again
 abbrev pub invariant-loop-entry : goal.invariant-loop-entry

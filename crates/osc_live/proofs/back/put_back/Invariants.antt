@@ -2,7 +2,7 @@ use Rattle.std.proofs.Common.{List}
 use Rattle.std.specs.VecDeque.{deque_capacity}
 use Rattle.osc_core.specs.Telling.{told}
 use Rattle.osc_live.specs.Redone.{IsOut, IsBack}
-use Rattle.osc_live.proofs.resume.put_back.Given as goal
+use Rattle.osc_live.proofs.back.put_back.Given as goal
 
 -- the boxes from the id on are back
 abbrev pub invariant-loop-id : goal.invariant-loop-id

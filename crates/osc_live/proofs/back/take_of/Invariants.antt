@@ -1,6 +1,6 @@
 use Rattle.std.proofs.Common.{◌≡◌, ◌≢◌, ℕ, ◌≤◌, vec_len, drop}
 use Rattle.std.specs.List.{AllByRecursion}
-use Rattle.osc_live.proofs.resume.take_of.Given as goal
+use Rattle.osc_live.proofs.back.take_of.Given as goal
 
 -- no box from the place on has the id
 abbrev pub invariant-loop-place : goal.invariant-loop-place

@@ -4,7 +4,7 @@ use Rattle.osc_core.specs.Telling.{told}
 use Rattle.osc_live.specs.Redone.{IsBack}
 use Rattle.osc_live.specs.Resuming.{marks}
 use Rattle.osc_live.proofs.Backs.{back_none, back_more, back_all}
-use Rattle.osc_live.proofs.resume.put_back.Goals as goal
+use Rattle.osc_live.proofs.back.put_back.Goals as goal
 
 pub loop-id-init : goal.loop-id-init
 loop-id-init g c whole out =
