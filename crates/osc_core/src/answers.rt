@@ -3,14 +3,8 @@ ghost use Rattle.std.specs.Prelude.{◌≡◌};
 ghost use Rattle.std.specs.Option.{option_map};
 ghost use Rattle.osc_model.specs.Events.{room_in};
 ghost use Rattle.osc_record.specs.Shown.{room_of};
-ghost use Rattle.osc_core.specs.Answers.{
-  enrolled_of,
-  submitted_of,
-  refusal_of,
-  adding_of,
-  removing_of,
-  ticking_of,
-};
+ghost use Rattle.osc_core.specs.Answers.{enrolled_of, submitted_of, refusal_of, adding_of};
+ghost use Rattle.osc_core.specs.Answers.{removing_of, ticking_of};
 
 use osc_atoms::Room;
 use osc_pattern::Address;

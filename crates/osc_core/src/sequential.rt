@@ -1,14 +1,13 @@
 //! The server with its recording and its boxes, one event after another.
-ghost use Rattle.std.specs.Prelude.{◌≡◌, ◌≢◌, ◌+◌, ◌*◌, ◌<◌, ◌≤◌, ◌++◌, ◌∷◌, [], length, map};
-ghost use Rattle.std.specs.Prelude.{drop, IsTrue, ℕ};
-ghost use Rattle.std.specs.Prelude.{◌↔◌, List, Contains, vec_capacity, IfOk, IfSome, IsSome};
+ghost use Rattle.std.specs.Prelude.{◌≡◌, ◌≢◌, ◌+◌, ◌*◌, ◌<◌, ◌≤◌, ◌++◌, ◌∷◌, [], length, map, drop};
+ghost use Rattle.std.specs.Prelude.{IsTrue, ℕ, ◌↔◌, List, Contains, vec_capacity, IfOk, IfSome};
+ghost use Rattle.std.specs.Prelude.{IsSome};
 ghost use Rattle.osc_model.specs.Events.{enrol, submit, add, remove, tick, release};
 ghost use Rattle.osc_model.specs.Recordings.{record_text};
 ghost use Rattle.osc_model.specs.Heard.{Told, reset, all_hear, without_id};
 ghost use Rattle.osc_model.specs.Refusals.{IsRefusal};
 ghost use Rattle.osc_model.specs.Releases.{IsLeastDue};
-ghost use Rattle.osc_model.specs.History.{IsLawful, Legal, state_of, stepped_in, onward};
-ghost use Rattle.osc_model.specs.History.{HaveHeard};
+ghost use Rattle.osc_model.specs.History.{IsLawful, Legal, state_of, stepped_in, onward, HaveHeard};
 ghost use Rattle.osc_record.specs.Shown.{event_of, answer_of};
 ghost use Rattle.osc_laws.specs.Laws.{KeepsTheLaws};
 ghost use Rattle.osc_core.specs.Answers.{enrolled_of, submitted_of, adding_of, removing_of};

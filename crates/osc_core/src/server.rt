@@ -14,11 +14,10 @@ ghost use Rattle.osc_model.specs.Releases.{IsLeastDue};
 ghost use Rattle.osc_model.specs.Step.{decided, calls_from, invocations_of};
 ghost use Rattle.osc_packet.specs.declared.limits.TheConstants.{MAX_STORED};
 ghost use Rattle.osc_core.specs.Answers.{enrolled_of, submitted_of, removing_of, ticking_of};
-ghost use Rattle.osc_core.specs.Answers.{OnRemoved};
+ghost use Rattle.osc_core.specs.Answers.{OnRemoved, OnReleased, OnWaiting};
 ghost use Rattle.osc_core.specs.Ids.{is_ascending, without};
 ghost use Rattle.osc_core.specs.Telling.{told};
 ghost use Rattle.osc_core.specs.Due.{Releases, made_by};
-ghost use Rattle.osc_core.specs.Answers.{OnReleased, OnWaiting};
 ghost use Rattle.osc_core.specs.Frames.{messages_in, AreFramed};
 ghost use Rattle.osc_core.specs.Playing.{tables};
 

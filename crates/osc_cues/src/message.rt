@@ -1,8 +1,7 @@
 // Reads the words after a moment as a message.
 ghost use Rattle.osc_pattern.specs.declared.limits.TheConstants.{MAX_PATTERN};
 ghost use Rattle.osc_cues.specs.declared.limits.TheConstants.{MAX_SHEET};
-ghost use Rattle.std.specs.Prelude.{◌≡◌, ◌≤◌, ◌++◌, ◌∷◌, [], length, IfOk, OnOk, replicate};
-ghost use Rattle.std.specs.Prelude.{IsTrue};
+ghost use Rattle.std.specs.Prelude.{◌≡◌, ◌≤◌, ◌++◌, ◌∷◌, [], length, IfOk, OnOk, replicate, IsTrue};
 ghost use Rattle.osc_pattern.specs.Patterns.{is_pattern};
 ghost use Rattle.osc_packet.specs.Bundling.{IsSpelled};
 ghost use Rattle.osc_atoms.specs.Atoms.{string};

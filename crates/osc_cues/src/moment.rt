@@ -3,9 +3,8 @@ ghost use Rattle.std.specs.Prelude.{◌≡◌, ◌≤◌, ◌<◌, ◌^◌, ◌�
 ghost use Rattle.osc_cues.specs.Moments;
 ghost use Rattle.osc_cues.specs.Moments.{moment_at, after, kept, last_of, nanos_of, beat_moment};
 ghost use Rattle.osc_cues.specs.Moments.{day_number, seconds_since, moment_since, clock_moment};
-ghost use Rattle.osc_cues.specs.Moments.{moment_told, moment_read, moment_on};
+ghost use Rattle.osc_cues.specs.Moments.{moment_told, moment_read, moment_on, IsTempo, IsMoment};
 ghost use Rattle.jiff_core.specs.Calendar.{IsEpochDay, days_from_civil};
-ghost use Rattle.osc_cues.specs.Moments.{IsTempo, IsMoment};
 ghost use Rattle.osc_cues.specs.Bounds.{IsSmall, IsSmallClock, IsSmallZone};
 
 use crate::fault::Fault;

@@ -7,8 +7,7 @@ ghost use lib.Ieee.{binary32, binary64};
 ghost use Rattle.osc_cues.specs.Numbers;
 ghost use Rattle.osc_cues.specs.Numbers.{int_of, long_of, int_read, long_read, bits_of};
 ghost use Rattle.osc_cues.specs.Numbers.{decimal_float, decimal_double, float_read, double_read};
-ghost use Rattle.osc_cues.specs.Numbers.{eight_read, sixteen_read};
-ghost use Rattle.osc_cues.specs.Numbers.{size_of as size_in};
+ghost use Rattle.osc_cues.specs.Numbers.{eight_read, sixteen_read, size_of as size_in};
 
 use crate::fault::{Fault, WordFault};
 use hex::FromHex;

@@ -5,8 +5,7 @@ ghost use Rattle.osc_cues.specs.declared.fault.WordFault.{WordFault};
 ghost use Rattle.osc_cues.specs.Faults.{made};
 ghost use Rattle.osc_cues.specs.Moments.{IsMoment, IsTempo};
 ghost use Rattle.osc_cues.specs.Sheets;
-ghost use Rattle.osc_cues.specs.Sheets.{spans_say, line_says, time_fault};
-ghost use Rattle.osc_cues.specs.Sheets.{IsReading, IsSaid};
+ghost use Rattle.osc_cues.specs.Sheets.{spans_say, line_says, time_fault, IsReading, IsSaid};
 ghost use Rattle.osc_cues.specs.Answers.{Says};
 ghost use Rattle.osc_packet.specs.Bundling.{IsSpelled};
 

@@ -2,8 +2,7 @@
 ghost use Rattle.std.specs.Prelude.{◌≡◌, ◌≤◌, ◌+◌, IfOk, length, map, filter, take};
 ghost use Rattle.osc_cues.specs.Words;
 ghost use Rattle.osc_cues.specs.Words.{lines_of, scanned, unscanned, finished_at, spans_of};
-ghost use Rattle.osc_cues.specs.Words.{word_at};
-ghost use Rattle.osc_cues.specs.Words.{column_of};
+ghost use Rattle.osc_cues.specs.Words.{word_at, column_of};
 ghost use Rattle.osc_cues.specs.Answers.{Says};
 
 use crate::fault::{Fault, WordError, WordFault};

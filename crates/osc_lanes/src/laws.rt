@@ -11,14 +11,13 @@ ghost use Rattle.osc_core.specs.Standing.{history_in};
 ghost use Rattle.osc_lanes.specs.declared.plan.LanePlan.{LanePlan};
 ghost use Rattle.osc_lanes.specs.declared.plan.LaneEnd.{LaneEnd};
 ghost use Rattle.osc_script.specs.declared.act.Act.TheVariants.{Add, Send};
-ghost use Rattle.osc_life.specs.Holders.{Onward};
+ghost use Rattle.osc_life.specs.Holders.{Onward, seen_by, holder_of};
 ghost use Rattle.osc_lanes.specs.Shares.{Account, LaneOf, IsRemovedAt};
 ghost use Rattle.osc_life.specs.Crews.{enrolments};
 ghost use Rattle.osc_life.specs.Lives.{added_ids, Numbered};
 ghost use Rattle.osc_lanes.specs.Performs.{removed_ids, Part};
 ghost use Rattle.osc_lanes.specs.Later.{Performs};
 ghost use Rattle.osc_lanes.specs.Enough.{enough_for};
-ghost use Rattle.osc_life.specs.Holders.{seen_by, holder_of};
 ghost use Rattle.osc_lanes.specs.Ends.{told_in, IsReady, IsEndOf};
 
 use osc_method::Method;

@@ -16,8 +16,7 @@ ghost use Rattle.osc_life.specs.Crews.{IsLeft};
 ghost use Rattle.osc_life.specs.Holders.{Stays, holder_at};
 ghost use Rattle.osc_life.specs.Whole.{IsWhole as HasAllTokens};
 ghost use Rattle.osc_lanes.specs.Performs.{part_of, told_of, IsWhole};
-ghost use Rattle.osc_lanes.specs.Later.{Performs};
-ghost use Rattle.osc_lanes.specs.Later.{old_callers, PerformsLater, PerformsBeside};
+ghost use Rattle.osc_lanes.specs.Later.{Performs, old_callers, PerformsLater, PerformsBeside};
 ghost use Rattle.osc_record.specs.declared.limits.TheConstants.{MAX_CALLERS};
 
 use crate::part::{LanePart, LaneTold};

@@ -22,15 +22,13 @@ ghost use Rattle.osc_model.specs.Events.{units_full, pool_full, ticked, clock_ba
 ghost use Rattle.osc_model.specs.Events.{Entry};
 ghost use Rattle.osc_model.specs.Enrolled.{callers_in};
 ghost use Rattle.osc_model.specs.Step.{step, decided, leaves, waiting, numbered, kept};
-ghost use Rattle.osc_model.specs.Step.{kept_numbered};
-ghost use Rattle.osc_model.specs.Step.{late_count, enter_all};
+ghost use Rattle.osc_model.specs.Step.{kept_numbered, late_count, enter_all};
 ghost use Rattle.osc_model.specs.declared.late.Late.{Late};
 ghost use Rattle.osc_model.specs.declared.late.Late.TheVariants.{Deliver, Discard};
 ghost use Rattle.osc_model.specs.Releases.{ReleasesLeast, InvokesRegistered};
 ghost use Rattle.osc_model.specs.Refusals.{IsRefusal};
 ghost use Rattle.osc_model.specs.Passing.{entering, dropping, leaving, all_entering, all_leaving};
-ghost use Rattle.osc_model.specs.Passing.{queued_in};
-ghost use Rattle.osc_model.specs.Passing.{released_in};
+ghost use Rattle.osc_model.specs.Passing.{queued_in, released_in};
 ghost use Rattle.osc_model.specs.Heard.{Told, reset, hear_all, all_hear, without_id, heard_of};
 ghost use Rattle.osc_model.specs.Heard.{calls_bytes, IsWithin};
 ghost use Rattle.osc_model.specs.History.{IsLawful, Legal, IsSound, IsCounted, IsInvokedIn, after};

@@ -9,8 +9,7 @@ ghost use Rattle.osc_message.specs.Messages.{message_text};
 ghost use Rattle.osc_message.specs.Arguments.{unknown_of};
 ghost use Rattle.osc_score.specs.Scores.{Note, message_of, IsNote, IsOrdered, IsScore};
 ghost use Rattle.osc_score.specs.Reading.{least_of, note_added, line_read, score_of};
-ghost use Rattle.osc_notes.specs.Notes.{note_text, score_text, note_for, notes_of};
-ghost use Rattle.osc_notes.specs.Notes.{notes_added};
+ghost use Rattle.osc_notes.specs.Notes.{note_text, score_text, note_for, notes_of, notes_added};
 ghost use Rattle.osc_notes.specs.Cued.{cued_notes, IsSayable, AreInOrder};
 
 use osc_message::laws as messages;

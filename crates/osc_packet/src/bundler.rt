@@ -1,6 +1,5 @@
 //! Bundles that are built message by message.
-ghost use Rattle.osc_atoms.specs.declared.limits.TheConstants.{MAX_PACKET};
-ghost use Rattle.osc_atoms.specs.declared.limits.TheConstants.{MAX_BYTES};
+ghost use Rattle.osc_atoms.specs.declared.limits.TheConstants.{MAX_PACKET, MAX_BYTES};
 ghost use Rattle.std.specs.Prelude.{◌≡◌, ◌++◌, ◌≤◌, length, IsTrue, IfOk, OnOk, OnErr};
 ghost use Rattle.osc_message.specs.Reading.{is_message};
 ghost use Rattle.osc_packet.specs.Packets.{bundle_word};

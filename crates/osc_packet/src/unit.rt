@@ -26,8 +26,7 @@ impl<'a> Model for Unit<'a> {
 
 impl<'a> Unit<'a> {
     ghost use Rattle.std.specs.Prelude.{◌≡◌, ◌≤◌, ◌∷◌, [], length, IsTrue, IfSome};
-    ghost use Rattle.osc_atoms.specs.declared.limits.TheConstants.{MAX_BYTES};
-    ghost use Rattle.osc_atoms.specs.declared.limits.TheConstants.{MAX_PACKET};
+    ghost use Rattle.osc_atoms.specs.declared.limits.TheConstants.{MAX_BYTES, MAX_PACKET};
     ghost use Rattle.osc_packet.specs.declared.limits.TheConstants.{MAX_STORED};
     ghost use Rattle.osc_message.specs.Reading.{is_message};
     ghost use Rattle.osc_packet.specs.Units.{stored_size, blocks};

@@ -1,7 +1,6 @@
 // Sets of bytes.
 ghost use Rattle.std.specs.Prelude.{◌≡◌, ◌≤◌, ◌<◌, ◌+◌, ◌||◌, ◌&&◌, ◌==◌, ℕ, false, nat_lt, nat_le};
-ghost use Rattle.std.specs.Prelude.{min};
-ghost use Rattle.std.specs.Prelude.{length};
+ghost use Rattle.std.specs.Prelude.{min, length};
 ghost use Rattle.osc_pattern.specs.Items.{stands_for, is_in_set, is_between};
 ghost use Rattle.osc_pattern.specs.ReadyParts.{is_one_of, is_as};
 

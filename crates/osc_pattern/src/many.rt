@@ -1,6 +1,5 @@
 // What stands many times in a part: items that follow one another, and texts of a choice.
-ghost use Rattle.std.specs.Prelude.{◌≡◌, ◌≤◌, ◌<◌, ◌+◌, ◌*◌, ℕ, List, length, IfSome, true};
-ghost use Rattle.std.specs.Prelude.{Bool};
+ghost use Rattle.std.specs.Prelude.{◌≡◌, ◌≤◌, ◌<◌, ◌+◌, ◌*◌, ℕ, List, length, IfSome, true, Bool};
 ghost use Rattle.std.specs.List.{list_any, flat_map, slice_split};
 ghost use Rattle.osc_pattern.specs.Items.{is_comma};
 ghost use Rattle.osc_pattern.specs.Cuts.{after_text};

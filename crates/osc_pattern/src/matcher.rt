@@ -1,8 +1,7 @@
 // The matcher: one item of a part after another, and the places of the name that they reach.
 ghost use Rattle.osc_pattern.specs.declared.limits.TheConstants.{MAX_NAME};
 ghost use Rattle.std.specs.Prelude.{◌≡◌, ◌≤◌, ◌<◌, ◌+◌, ◌*◌, ◌||◌, ℕ, Bool, false, List, ◌∷◌};
-ghost use Rattle.std.specs.Prelude.{length};
-ghost use Rattle.std.specs.Prelude.{IsTrue, IfSome, MatchOption, Some, None};
+ghost use Rattle.std.specs.Prelude.{length, IsTrue, IfSome, MatchOption, Some, None};
 ghost use Rattle.std.specs.List.{flat_map, list_any, slice_split};
 ghost use Rattle.osc_pattern.specs.Items.{is_comma, item_text, any, set, choice, plain};
 ghost use Rattle.osc_pattern.specs.Items.{Item as Spelled};

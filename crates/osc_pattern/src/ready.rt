@@ -1,11 +1,10 @@
 //! Parts whose lists are read once for all names.
 ghost use Rattle.osc_pattern.specs.declared.limits.TheConstants.{MOST_READY};
-ghost use Rattle.std.specs.Prelude.{◌≡◌, ◌≤◌, ◌+◌, ℕ, List, [], length, take, true};
-ghost use Rattle.std.specs.Prelude.{Bool, IfSome};
+ghost use Rattle.std.specs.Prelude.{◌≡◌, ◌≤◌, ◌+◌, ℕ, List, [], length, take, true, Bool, IfSome};
+ghost use Rattle.std.specs.Prelude.{◌*◌};
 ghost use Rattle.std.specs.List.{list_any};
 ghost use Rattle.osc_pattern.specs.Reading.{match_part};
 ghost use Rattle.osc_pattern.specs.Items.{item_text};
-ghost use Rattle.std.specs.Prelude.{◌*◌};
 ghost use Rattle.osc_pattern.specs.Cuts.{after_item};
 ghost use Rattle.osc_pattern.specs.Repeats.{after_times};
 ghost use Rattle.osc_pattern.specs.Views.{item_of};

@@ -1,7 +1,7 @@
 // Blocks that follow one another by their links.
 ghost use Rattle.osc_pool.specs.declared.limits.TheConstants.{BLOCK_SIZE};
-ghost use Rattle.std.specs.Prelude.{◌≡◌, ◌-◌, ◌<◌, ◌≤◌, ◌^◌, ◌++◌, ℕ, IfOk, length, max, replicate, take};
-ghost use Rattle.std.specs.Prelude.{vec_capacity};
+ghost use Rattle.std.specs.Prelude.{◌≡◌, ◌-◌, ◌<◌, ◌≤◌, ◌^◌, ◌++◌, ℕ, IfOk, length, max, replicate};
+ghost use Rattle.std.specs.Prelude.{take, vec_capacity};
 ghost use Rattle.std.specs.List.{range_with_len};
 ghost use Rattle.osc_pool.specs.Holding.{blocks_for};
 ghost use Rattle.osc_pool.specs.Paths.{behind, filled_up, path, text, IsPath, IsPut, IsWritten};

@@ -1,7 +1,7 @@
 //! The pool: blocks of 64 bytes that are reserved at opening, in which bytes are stored as chains.
 ghost use Rattle.osc_pool.specs.declared.limits.TheConstants.{MAX_BLOCKS};
-ghost use Rattle.std.specs.Prelude.{◌≡◌, ◌+◌, ◌<◌, ◌≤◌, ◌↔◌, ◌++◌, [], length, replicate, IsErr, IfOk};
-ghost use Rattle.std.specs.Prelude.{IfErr, OnOk, OnErr};
+ghost use Rattle.std.specs.Prelude.{◌≡◌, ◌+◌, ◌<◌, ◌≤◌, ◌↔◌, ◌++◌, [], length, replicate, IsErr};
+ghost use Rattle.std.specs.Prelude.{IfOk, IfErr, OnOk, OnErr};
 ghost use Rattle.osc_pool.specs.Holding.{blocks_for, used_blocks, held_by, with_chain, IsLive};
 ghost use Rattle.osc_pool.specs.Holding.{IsNew, KeepsLive, KeepsOthers};
 

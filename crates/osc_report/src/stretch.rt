@@ -2,7 +2,8 @@
 ghost use Rattle.std.specs.Prelude.{◌≡◌, IfOk};
 ghost use Rattle.osc_record.specs.Shown.{event_of, answer_of};
 ghost use Rattle.osc_report.specs.Moments as spec;
-ghost use Rattle.osc_report.specs.Stretches.{HasRead, ReadsNext, placed, told, clock_after, clock_at};
+ghost use Rattle.osc_report.specs.Stretches.{HasRead, ReadsNext, placed, told, clock_after};
+ghost use Rattle.osc_report.specs.Stretches.{clock_at};
 
 use osc_record::{Answer, Entry, Event, Unread};
 use std::alloc::{AllocError, Global};

@@ -45,8 +45,7 @@ impl Model for Runs {
 }
 
 impl Runs {
-    ghost use Rattle.std.specs.Prelude.{◌≡◌, ◌++◌, true, false, OnOk, OnErr};
-    ghost use Rattle.std.specs.Prelude.{Err};
+    ghost use Rattle.std.specs.Prelude.{◌≡◌, ◌++◌, true, false, OnOk, OnErr, Err};
     ghost use Rattle.osc_runs.specs.declared.runs.TakeFault.{TakeFault};
     ghost use Rattle.osc_runs.specs.Gathering.{none, goes_on, gather};
     ghost use Rattle.osc_runs.specs.Telling.{rows_text};

@@ -4,11 +4,10 @@ ghost use Rattle.osc_score.specs.declared.limits.TheConstants.{MAX_SCORE};
 ghost use Rattle.std.specs.Prelude.{◌≡◌, ◌≤◌, length, Some, IfSome, option_map};
 ghost use Rattle.std.specs.Result.{result_ok};
 ghost use Rattle.hex.specs.Hex.{decode_of};
-ghost use Rattle.osc_message.specs.Messages.{tag_of, atom_of, HasNoZero, content, text};
-ghost use Rattle.osc_message.specs.Messages.{symbol};
+ghost use Rattle.osc_message.specs.Messages.{tag_of, atom_of, HasNoZero, content, text, symbol};
 ghost use Rattle.osc_message.specs.Shown.{shown};
-ghost use Rattle.osc_score.specs.ArgumentWords.{bare_read, number_read, value_read};
-ghost use Rattle.osc_score.specs.ArgumentWords.{argument_read, text_read};
+ghost use Rattle.osc_score.specs.ArgumentWords.{bare_read, number_read, value_read, argument_read};
+ghost use Rattle.osc_score.specs.ArgumentWords.{text_read};
 ghost use Rattle.osc_score.specs.Argued.{Argues, IsUnder};
 
 use crate::fault::ScoreFault;

@@ -1,9 +1,8 @@
 //! What happened to a message.
 ghost use Rattle.std.specs.Prelude.{◌≡◌, ◌++◌, [], OnOk, IfOk, Some, codes, string_bytes};
 ghost use Rattle.std.specs.Net.Text.{socket_v4_text};
-ghost use Rattle.osc_shown.specs.Tails.{comma, joined, from_words, late_words, wait_words};
-ghost use Rattle.osc_shown.specs.Tails.{goes, goes_by};
-ghost use Rattle.osc_shown.specs.Tails.{called_mark, due_mark, mark_of, outcome, tail_of};
+ghost use Rattle.osc_shown.specs.Tails.{comma, joined, from_words, late_words, wait_words, goes};
+ghost use Rattle.osc_shown.specs.Tails.{goes_by, called_mark, due_mark, mark_of, outcome, tail_of};
 ghost use Rattle.osc_shown.specs.Tails.{unknown_words, waits};
 
 use crate::bytes::add;

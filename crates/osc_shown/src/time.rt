@@ -1,8 +1,7 @@
 //! Moments, as a wall clock shows them.
 ghost use Rattle.std.specs.Prelude.{◌≡◌, ◌<◌, ◌^◌, ◌++◌, OnOk, IfOk};
-ghost use Rattle.osc_shown.specs.Times.{millis_of, shown_millis, day_of, clock_text};
-ghost use Rattle.osc_shown.specs.Times.{time_text, span_text, seconds_text, bare_seconds};
-ghost use Rattle.osc_shown.specs.Times.{is_other_day};
+ghost use Rattle.osc_shown.specs.Times.{millis_of, shown_millis, day_of, clock_text, time_text};
+ghost use Rattle.osc_shown.specs.Times.{span_text, seconds_text, bare_seconds, is_other_day};
 
 use crate::WallClock;
 use crate::bytes::add;

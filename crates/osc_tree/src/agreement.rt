@@ -1,7 +1,6 @@
 // How many parts of a pattern match the names of a method.
 ghost use Rattle.osc_pattern.specs.declared.limits.TheConstants.{MAX_NAME, MAX_NAMES};
-ghost use Rattle.std.specs.Prelude.{◌≡◌, ◌≤◌, ◌<◌, ◌+◌, ◌*◌, ◌==◌, ◌&&◌};
-ghost use Rattle.std.specs.Prelude.{true, length, drop};
+ghost use Rattle.std.specs.Prelude.{◌≡◌, ◌≤◌, ◌<◌, ◌+◌, ◌*◌, ◌==◌, ◌&&◌, true, length, drop};
 ghost use Rattle.std.specs.Prelude.{get_or, All, false};
 ghost use Rattle.std.specs.List.{slice_split};
 ghost use Rattle.osc_pattern.specs.Items.{is_slash};
@@ -9,8 +8,7 @@ ghost use Rattle.osc_pattern.specs.Patterns.{parts_of, part_at};
 ghost use Rattle.osc_pattern.specs.Reading.{match_part};
 ghost use Rattle.osc_pattern.specs.ReadyParts.{StandsFor};
 ghost use Rattle.osc_tree.specs.Views.{method_at, methods_at};
-ghost use Rattle.osc_tree.specs.Walking.{agreeing, spent, known_at};
-ghost use Rattle.osc_tree.specs.Walking.{IsSorted, IsFront, AreParts};
+ghost use Rattle.osc_tree.specs.Walking.{agreeing, spent, known_at, IsSorted, IsFront, AreParts};
 
 use crate::names::{Front, first_name, names_of, shared_front};
 use crate::registered::Registered;

@@ -1,8 +1,7 @@
 // Where a walk goes on, after a name that a part doesn't match.
 ghost use Rattle.std.specs.Prelude.{◌≡◌, ◌≤◌, ◌<◌, ◌+◌, ◌++◌, ◌∷◌, ◌==◌, ℕ, List, [], All};
-ghost use Rattle.std.specs.Prelude.{Contains};
-ghost use Rattle.std.specs.Prelude.{IfSome, MatchOption, false, true, length, take, position};
-ghost use Rattle.std.specs.Prelude.{option_map, get_or, nat_eq, Some, if◌then◌else◌};
+ghost use Rattle.std.specs.Prelude.{Contains, IfSome, MatchOption, false, true, length, take};
+ghost use Rattle.std.specs.Prelude.{position, option_map, get_or, nat_eq, Some, if◌then◌else◌};
 ghost use Rattle.std.specs.List.{list_any, slice_split, starts_with};
 ghost use Rattle.osc_pattern.specs.Items.{is_choice_end, is_comma, is_slash};
 ghost use Rattle.osc_pattern.specs.Patterns.{is_special};

@@ -1,8 +1,7 @@
 // Patterns that are plain but for one choice of plain texts: each text makes one address.
 ghost use Rattle.osc_pattern.specs.declared.limits.TheConstants.{MAX_ADDRESS};
 ghost use Rattle.std.specs.Prelude.{◌≡◌, ◌≤◌, ◌+◌, ◌++◌, ◌||◌, [], true, position, IfSome, Some};
-ghost use Rattle.std.specs.Prelude.{length};
-ghost use Rattle.std.specs.Prelude.{map, filter, take, vec_len, vec_capacity};
+ghost use Rattle.std.specs.Prelude.{length, map, filter, take, vec_len, vec_capacity};
 ghost use Rattle.std.specs.List.{slice_split};
 ghost use Rattle.std.specs.Option.{option_to_list};
 ghost use Rattle.osc_pattern.specs.Items.{is_comma, is_slash};

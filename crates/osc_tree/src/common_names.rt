@@ -1,7 +1,5 @@
 // The methods that have names in common with an address.
-ghost use Rattle.std.specs.Prelude.{◌≡◌, ◌≤◌, ◌<◌, not, nat_le};
-ghost use Rattle.std.specs.Prelude.{length};
-ghost use Rattle.std.specs.Prelude.{All};
+ghost use Rattle.std.specs.Prelude.{◌≡◌, ◌≤◌, ◌<◌, not, nat_le, length, All};
 ghost use Rattle.std.specs.List.{slice_split, position_or_len};
 ghost use Rattle.std.specs.List.Sorted.{IsPartitionedBy};
 ghost use Rattle.osc_pattern.specs.Items.{is_slash};

@@ -1,16 +1,14 @@
 // The course of a walk along the methods that begin as a pattern does.
-ghost use Rattle.std.specs.Prelude.{◌≡◌, ◌≤◌, ◌<◌, ◌+◌, ◌++◌, ◌==◌, ◌&&◌, []};
-ghost use Rattle.std.specs.Prelude.{nat_lt, if◌then◌else◌, true, length, take, drop, filter};
-ghost use Rattle.std.specs.Prelude.{map, get_or, All, vec_len, vec_capacity, IfSome, false};
+ghost use Rattle.std.specs.Prelude.{◌≡◌, ◌≤◌, ◌<◌, ◌+◌, ◌++◌, ◌==◌, ◌&&◌, [], nat_lt};
+ghost use Rattle.std.specs.Prelude.{if◌then◌else◌, true, length, take, drop, filter, map, get_or};
+ghost use Rattle.std.specs.Prelude.{All, vec_len, vec_capacity, IfSome, false, ℕ, List, suc};
 ghost use Rattle.std.specs.List.{slice_split};
 ghost use Rattle.osc_pattern.specs.Items.{is_slash};
 ghost use Rattle.osc_pattern.specs.Patterns.{parts_of, matches};
 ghost use Rattle.osc_tree.specs.Views.{methods_at};
-ghost use Rattle.osc_tree.specs.Walking.{most_steps};
-ghost use Rattle.osc_tree.specs.Walking.{IsWalked, is_ahead};
+ghost use Rattle.osc_tree.specs.Walking.{most_steps, IsWalked, is_ahead};
 ghost use Rattle.osc_tree.specs.Trials.{IsSet, IsTried, IsBelow, spelled_at};
 ghost use Rattle.std.specs.Str.{bytes_eq};
-ghost use Rattle.std.specs.Prelude.{ℕ, List, suc};
 ghost use Rattle.osc_pattern.specs.Methods.{Method};
 
 use crate::agreement::{count_matching, known_at};

@@ -1,9 +1,8 @@
 // The methods that a pattern matches.
 ghost use Rattle.osc_pattern.specs.declared.limits.TheConstants.{MAX_NAMES};
-ghost use Rattle.std.specs.Prelude.{◌≡◌, ◌≤◌, ◌<◌, ◌+◌, []};
-ghost use Rattle.std.specs.Prelude.{None, length, drop, filter};
-ghost use Rattle.std.specs.Prelude.{map, position, All, vec_len, vec_capacity, MatchBool, IfSome};
-ghost use Rattle.std.specs.Prelude.{Some, false};
+ghost use Rattle.std.specs.Prelude.{◌≡◌, ◌≤◌, ◌<◌, ◌+◌, [], None, length, drop, filter, map};
+ghost use Rattle.std.specs.Prelude.{position, All, vec_len, vec_capacity, MatchBool, IfSome, Some};
+ghost use Rattle.std.specs.Prelude.{false};
 ghost use Rattle.std.specs.List.{list_any, slice_split};
 ghost use Rattle.osc_pattern.specs.Items.{is_slash};
 ghost use Rattle.osc_pattern.specs.Methods.{IsMethodList};
@@ -11,8 +10,7 @@ ghost use Rattle.osc_pattern.specs.Patterns.{parts_of, is_special, matches};
 ghost use Rattle.osc_tree.specs.Matching.{matching_ids};
 ghost use Rattle.osc_tree.specs.Order.{IsDepth, IsOrder};
 ghost use Rattle.osc_tree.specs.Views.{methods_of, methods_at};
-ghost use Rattle.osc_tree.specs.Walking.{most_steps};
-ghost use Rattle.osc_tree.specs.Walking.{IsSorted, IsFront};
+ghost use Rattle.osc_tree.specs.Walking.{most_steps, IsSorted, IsFront};
 
 use crate::choice::{add_chosen, find_choice};
 use crate::course::walk_found;

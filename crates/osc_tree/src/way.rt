@@ -1,12 +1,10 @@
 // Where a walk goes on by a search after a method that doesn't match.
-ghost use Rattle.std.specs.Prelude.{◌≡◌, ◌≤◌, ◌<◌, ◌+◌, ◌++◌, ◌∷◌, []};
-ghost use Rattle.std.specs.Prelude.{length, take, drop};
-ghost use Rattle.std.specs.Prelude.{All, IfSome};
+ghost use Rattle.std.specs.Prelude.{◌≡◌, ◌≤◌, ◌<◌, ◌+◌, ◌++◌, ◌∷◌, [], length, take, drop, All};
+ghost use Rattle.std.specs.Prelude.{IfSome};
 ghost use Rattle.std.specs.List.{slice_split};
 ghost use Rattle.osc_pattern.specs.Items.{is_slash};
 ghost use Rattle.osc_pattern.specs.Patterns.{parts_of};
-ghost use Rattle.osc_tree.specs.Walking.{agreeing};
-ghost use Rattle.osc_tree.specs.Walking.{IsOnward};
+ghost use Rattle.osc_tree.specs.Walking.{agreeing, IsOnward};
 
 use crate::aim::find_aim;
 use crate::names::{first_name, names_at};

@@ -1,6 +1,5 @@
 //! How a turn is closed.
-ghost use Rattle.std.specs.Prelude.{◌≡◌, ◌≢◌, ◌<◌, ◌≤◌, [], length, map, All};
-ghost use Rattle.std.specs.Prelude.{IfOk, OnOk, IfErr};
+ghost use Rattle.std.specs.Prelude.{◌≡◌, ◌≢◌, ◌<◌, ◌≤◌, [], length, map, All, IfOk, OnOk, IfErr};
 ghost use Rattle.osc_turn.specs.declared.limits.TheConstants.{MAX_PASSES};
 ghost use Rattle.osc_turn.specs.Rule.{number_of, Rests};
 ghost use Rattle.osc_turn.specs.Passes.{view, IsPassOf, opened_with};

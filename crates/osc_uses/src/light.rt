@@ -2,8 +2,7 @@
 //! is due. All is handed in by caller 0, who is enrolled from the start.
 ghost use Rattle.osc_atoms.specs.declared.limits.TheConstants.{MAX_PACKET};
 ghost use Rattle.osc_edge.specs.declared.limits.TheConstants.{MAX_DATAGRAM};
-ghost use Rattle.std.specs.Prelude.{◌≡◌, [], ◌∷◌, length, map, Some, IfOk};
-ghost use Rattle.std.specs.Prelude.{OnOk, OnErr};
+ghost use Rattle.std.specs.Prelude.{◌≡◌, [], ◌∷◌, length, map, Some, IfOk, OnOk, OnErr};
 ghost use Rattle.osc_edge.specs.Link.{TakesTurn};
 ghost use Rattle.osc_message.specs.Arguments.{message_arguments};
 ghost use Rattle.osc_message.specs.Shown.{shown};
