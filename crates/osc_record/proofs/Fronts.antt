@@ -28,10 +28,12 @@ use Rattle.osc_model.specs.Recordings.{enrol_row, submit_row, add_row, remove_ro
 use Rattle.osc_record.specs.declared.version.Version.{Version}
 use Rattle.osc_record.specs.declared.version.Version.TheVariants.{First, Second}
 use Rattle.osc_record.specs.Versions.{old_submit_row, submit_front_in, submit_tags_in, row_in, text_in}
-use Rattle.osc_record.specs.Reading.{submit_read, row_read, entry_of}
+use Rattle.osc_record.specs.Fields.{submit_at, release_at}
+use Rattle.osc_record.specs.Reading.{row_read, entry_of}
 use Rattle.osc_record.proofs.Lawful.{enrol_address, submit_address, add_address, remove_address, tick_address, release_address}
 use Rattle.osc_record.proofs.Written.{fits_in}
 use Rattle.osc_record.proofs.EntriesRead.{entry_was}
+use Rattle.osc_record.proofs.FieldsRead.{submit_same, release_same}
 
 -- what is read of bytes that begin with an address and tags
 pub record Front (front address tags : List ℕ) : Type 0 where
@@ -229,24 +231,21 @@ release_front = record {
   some = omega arith;
 }
 
--- the message of a submit, where its arguments are read, and where they aren't
-pub submit_some : (version : Version) (bytes : List ℕ)
-    → starts_with ◌==◌ bytes (submit_front_in version) ≡ true → length bytes % 4 ≡ 0 → length bytes ≤ 1073741824
-    → is_ok (arguments_read bytes (submit_tags_in version) 20) ≡ true
-    → entry_of version bytes ≡ submit_read version (arguments_of (submit_tags_in version) bytes 20)
-submit_some First bytes begins four small read =
-    front_some First (submit_front_in First) (codes "/osc/submit") (submit_tags_in First) (submit_front First) bytes begins four small read
-submit_some Second bytes begins four small read =
-    front_some Second (submit_front_in Second) (codes "/osc/submit") (submit_tags_in Second) (submit_front Second) bytes begins four small read
+-- what the message of a submit is read as
+pub submit_entry : (version : Version) (bytes : List ℕ) → starts_with ◌==◌ bytes (submit_front_in version) ≡ true → length bytes % 4 ≡ 0
+    → length bytes ≤ 1073741824 → entry_of version bytes ≡ submit_at version bytes 20
+submit_entry First bytes begins four small =
+    front_entry First (submit_front_in First) (codes "/osc/submit") (submit_tags_in First) (submit_front First) bytes begins four small
+    ∙ sym (submit_same First bytes 20)
+submit_entry Second bytes begins four small =
+    front_entry Second (submit_front_in Second) (codes "/osc/submit") (submit_tags_in Second) (submit_front Second) bytes begins four small
+    ∙ sym (submit_same Second bytes 20)
 
-pub submit_none : (version : Version) (bytes : List ℕ)
-    → starts_with ◌==◌ bytes (submit_front_in version) ≡ true → length bytes % 4 ≡ 0 → length bytes ≤ 1073741824
-    → is_ok (arguments_read bytes (submit_tags_in version) 20) ≡ false
-    → entry_of version bytes ≡ None
-submit_none First bytes begins four small read =
-    front_none First (submit_front_in First) (codes "/osc/submit") (submit_tags_in First) (submit_front First) bytes begins four small read
-submit_none Second bytes begins four small read =
-    front_none Second (submit_front_in Second) (codes "/osc/submit") (submit_tags_in Second) (submit_front Second) bytes begins four small read
+-- and that of a release
+pub release_entry : (version : Version) (bytes : List ℕ) → starts_with ◌==◌ bytes release_bytes ≡ true → length bytes % 4 ≡ 0
+    → length bytes ≤ 1073741824 → entry_of version bytes ≡ release_at bytes 24
+release_entry version bytes begins four small =
+    front_entry version release_bytes (codes "/osc/release") (codes "ihb") release_front bytes begins four small ∙ sym (release_same bytes 24)
 
 -- A message with none of them is no entry.
 

@@ -13,6 +13,7 @@ pub mod Spelled
 pub mod RowsRead
 pub mod RowsIn
 pub mod EntriesRead
+pub mod FieldsRead
 pub mod Fronts
 pub mod Stops
 pub mod Remaining

@@ -1,8 +1,8 @@
 // The arguments of a recording's messages, one after another.
 ghost use Rattle.std.specs.Prelude.{◌≡◌, ℤ, ℕ, option_map, Some};
 ghost use Rattle.osc_message.specs.Left.{left};
-ghost use Rattle.osc_record.specs.Reading.{natural_of, int_first, signed_first, long_first};
-ghost use Rattle.osc_record.specs.Reading.{time_first, text_first, content_first, later_first};
+ghost use Rattle.osc_record.specs.Reading.{natural_of, int_first, signed_first, time_first};
+ghost use Rattle.osc_record.specs.Reading.{text_first, later_first};
 
 use crate::version::Version;
 use osc_message::{Arg, Args};
@@ -37,16 +37,6 @@ pub(crate) fn next_signed(args: &mut Args<'_>) -> Option<i32>
     }
 }
 
-/// Where it is a number in eight bytes that isn't negative.
-pub(crate) fn next_long(args: &mut Args<'_>) -> Option<u64>
-    ensures { option_map (λ n. (n, left args.new)) result ≡ long_first (left args.old) }
-{
-    match args.next() {
-        Some(Arg::Long(number)) => long_natural(number),
-        _ => None,
-    }
-}
-
 /// Where it is a moment.
 pub(crate) fn next_time(args: &mut Args<'_>) -> Option<u64>
     ensures { option_map (λ n. (n, left args.new)) result ≡ time_first (left args.old) }
@@ -67,18 +57,8 @@ pub(crate) fn next_text<'a>(args: &mut Args<'a>) -> Option<&'a [u8]>
     }
 }
 
-/// Where it is a blob.
-pub(crate) fn next_blob<'a>(args: &mut Args<'a>) -> Option<&'a [u8]>
-    ensures { option_map (λ blob. (blob.now, left args.new)) result
-        ≡ content_first (left args.old) }
-{
-    match args.next() {
-        Some(Arg::Blob(blob)) => Some(blob),
-        _ => None,
-    }
-}
-
-fn natural(number: i32) -> Option<u32>
+/// The number, where it isn't negative.
+pub(crate) fn natural(number: i32) -> Option<u32>
     ensures { result ≡ natural_of number }
 {
     if number < 0 {
@@ -88,7 +68,8 @@ fn natural(number: i32) -> Option<u32>
     }
 }
 
-fn long_natural(number: i64) -> Option<u64>
+/// The same of a number in eight bytes.
+pub(crate) fn long_natural(number: i64) -> Option<u64>
     ensures { result ≡ natural_of number }
 {
     if number < 0 {

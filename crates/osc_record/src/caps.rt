@@ -16,8 +16,9 @@ pub struct CapFault {
     pub field: u8,
 }
 
-/// How many queued units, blocks of 64 bytes, methods, nodes and callers there may be, and how many bytes of recording;
-/// and what becomes of late units. The numbers may be any, as a header or a user gives them.
+/// How many queued units, blocks of 64 bytes, methods, nodes and callers there may be, and how many
+/// bytes of recording; and what becomes of late units. The numbers may be any, as a header or a
+/// user gives them.
 #[derive(Clone, Copy, Debug, PartialEq, Eq)]
 pub struct Limits {
     pub units: u32,
@@ -62,9 +63,9 @@ impl Caps {
     ghost use Rattle.osc_model.specs.Limits.{header_size, max_recording};
     ghost use Rattle.std.specs.Prelude.{◌≤◌};
 
-    /// The limits, or the first of them that is outside its range: units, blocks and nodes from 1 to
-    /// `MAX_RESERVED`, methods to `MAX_METHODS`, callers to `MAX_CALLERS`, and recording from `HEADER_SIZE` to
-    /// `MAX_RECORDING`.
+    /// The limits, or the first of them that is outside its range: units, blocks and nodes from 1
+    /// to `MAX_RESERVED`, methods to `MAX_METHODS`, callers to `MAX_CALLERS`, and recording from
+    /// `HEADER_SIZE` to `MAX_RECORDING`.
     pub fn new(
         units: u32,
         blocks: u32,

@@ -1,23 +1,20 @@
 // Entries, read from the messages that they are.
 ghost use Rattle.osc_model.specs.Limits.{max_recording};
-ghost use Rattle.std.specs.Prelude.{◌≡◌, ◌==◌, ◌≤◌, ◌%◌, length, option_map, is_some, is_ok};
+ghost use Rattle.std.specs.Prelude.{◌≡◌, ◌==◌, ◌≤◌, ◌%◌, length, option_map};
 ghost use Rattle.std.specs.Prelude.{IsTrue, IfSome};
 ghost use Rattle.std.specs.List.{starts_with};
-ghost use Rattle.osc_message.specs.ArgumentReading.{arguments_of};
-ghost use Rattle.osc_message.specs.Reading.{arguments_read};
 ghost use Rattle.osc_message.specs.Left.{left};
-ghost use Rattle.osc_record.specs.Reading.{enrol_read, submit_read, add_read, remove_read};
-ghost use Rattle.osc_record.specs.Reading.{tick_read, release_read, entry_of};
-ghost use Rattle.osc_record.specs.Versions.{submit_front_in, submit_tags_in};
+ghost use Rattle.osc_record.specs.Fields.{submit_at, release_at};
+ghost use Rattle.osc_record.specs.Reading.{enrol_read, add_read, remove_read, tick_read, entry_of};
+ghost use Rattle.osc_record.specs.Versions.{submit_front_in};
 ghost use Rattle.osc_record.specs.Shown.{parts_of, HasWholeHits};
 
 use crate::answers::{
     add_answer, enrol_answer, release_answer, remove_answer, submit_answer, tick_answer,
 };
-use crate::arguments::{
-    next_blob, next_int, next_later, next_long, next_signed, next_text, next_time,
-};
+use crate::arguments::{next_int, next_signed, next_text, next_time};
 use crate::event::Event;
+use crate::fields::{content_at, int_at, later_at, long_at};
 use crate::parts::Parts;
 use crate::version::Version;
 use osc_message::Args;
@@ -46,9 +43,9 @@ pub(crate) fn read_message(version: Version, bytes: &[u8]) -> Option<Parts<'_>>
 {
     // Most entries are submits and releases.
     if begins_submit(version, bytes) {
-        read_submit(version, submit_args(version, bytes)?)
+        read_submit(version, bytes)
     } else if bytes.starts_with(&RELEASE) {
-        read_release(Args::read(b"ihb", bytes, 24)?)
+        read_release(bytes)
     } else if bytes.starts_with(&TICK) {
         read_tick(Args::read(b"itit", bytes, 20)?)
     } else if bytes.starts_with(&ADD) {
@@ -73,22 +70,6 @@ fn begins_submit(version: Version, bytes: &[u8]) -> bool
     }
 }
 
-/// The arguments of a submit's message.
-fn submit_args<'a>(version: Version, bytes: &'a [u8]) -> Option<Args<'a>>
-    requires fours { length bytes.now % 4 ≡ 0 }
-    requires inside { 20 ≤ length bytes.now }
-    requires small { length bytes.now ≤ max_recording }
-    ensures exact { is_some result
-        ≡ is_ok (arguments_read bytes.now (submit_tags_in version) 20) }
-    ensures read { IfSome result
-        (λ args. left args ≡ arguments_of (submit_tags_in version) bytes.now 20) }
-{
-    match version {
-        Version::First => Args::read(b"ibihi", bytes, 20),
-        Version::Second => Args::read(b"ibihii", bytes, 20),
-    }
-}
-
 fn read_enrol<'a>(mut args: Args<'a>) -> Option<Parts<'a>>
     ensures value { option_map parts_of result ≡ enrol_read (left args.entry) }
     ensures whole { IfSome result (λ parts. HasWholeHits parts.answer) }
@@ -106,17 +87,20 @@ fn read_enrol<'a>(mut args: Args<'a>) -> Option<Parts<'a>>
     })
 }
 
-fn read_submit<'a>(version: Version, mut args: Args<'a>) -> Option<Parts<'a>>
-    ensures value { option_map parts_of result ≡ submit_read version (left args.entry) }
+fn read_submit(version: Version, bytes: &[u8]) -> Option<Parts<'_>>
+    requires fours { length bytes.now % 4 ≡ 0 }
+    requires inside { 20 ≤ length bytes.now }
+    requires small { length bytes.now ≤ max_recording }
+    ensures value { option_map parts_of result ≡ submit_at version bytes.now 20 }
     ensures whole { IfSome result (λ parts. HasWholeHits parts.answer) }
 {
-    let caller = next_int(&mut args)?;
-    let packet = next_blob(&mut args)?;
-    let code = next_int(&mut args)?;
-    let first = next_long(&mut args)?;
-    let second = next_int(&mut args)?;
-    let third = next_later(version, &mut args)?;
-    if args.next().is_some() {
+    let (caller, at) = int_at(bytes, 20)?;
+    let (packet, at) = content_at(bytes, at)?;
+    let (code, at) = int_at(bytes, at)?;
+    let (first, at) = long_at(bytes, at)?;
+    let (second, at) = int_at(bytes, at)?;
+    let (third, at) = later_at(version, bytes, at)?;
+    if at as usize != bytes.len() {
         return None;
     }
     let answer = submit_answer(code, first, second, third)?;
@@ -185,14 +169,17 @@ fn read_tick<'a>(mut args: Args<'a>) -> Option<Parts<'a>>
     })
 }
 
-fn read_release<'a>(mut args: Args<'a>) -> Option<Parts<'a>>
-    ensures value { option_map parts_of result ≡ release_read (left args.entry) }
+fn read_release(bytes: &[u8]) -> Option<Parts<'_>>
+    requires fours { length bytes.now % 4 ≡ 0 }
+    requires inside { 24 ≤ length bytes.now }
+    requires small { length bytes.now ≤ max_recording }
+    ensures value { option_map parts_of result ≡ release_at bytes.now 24 }
     ensures whole { IfSome result (λ parts. HasWholeHits parts.answer) }
 {
-    let caller = next_int(&mut args)?;
-    let unit = next_long(&mut args)?;
-    let hits = next_blob(&mut args)?;
-    if args.next().is_some() {
+    let (caller, at) = int_at(bytes, 24)?;
+    let (unit, at) = long_at(bytes, at)?;
+    let (hits, at) = content_at(bytes, at)?;
+    if at as usize != bytes.len() {
         return None;
     }
     let answer = release_answer(unit, hits)?;

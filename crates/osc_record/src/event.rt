@@ -23,7 +23,8 @@ pub enum Answer<'a> {
     /// A new caller's number.
     Number(u32),
     CallersFull,
-    /// The number of the packet's first unit, how many units it has, and how many of them are late and aren't kept.
+    /// The number of the packet's first unit, how many units it has, and how many of them are late
+    /// and aren't kept.
     Queued { first: u64, count: u32, late: u32 },
     UnitsFull(Room),
     PoolFull(Room),
@@ -43,7 +44,8 @@ pub enum Answer<'a> {
     Ticked,
     /// The clock that is kept.
     ClockBack(u64),
-    /// The unit's number, and two words for each invocation: the message's index and the method's id.
+    /// The unit's number, and two words for each invocation: the message's index and the method's
+    /// id.
     Released { unit: u64, hits: &'a [u8] },
 }
 

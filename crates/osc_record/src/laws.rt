@@ -1,4 +1,5 @@
-//! What the definitions of recordings say of each other. These functions do nothing; their contracts are the laws.
+//! What the definitions of recordings say of each other. These functions do nothing; their
+//! contracts are the laws.
 ghost use Rattle.std.specs.Prelude.{◌≡◌, ℕ, ◌%◌, ◌≤◌, List, [], ◌∷◌, ◌++◌, length, codes, Ok, Some};
 ghost use Rattle.osc_atoms.specs.Atoms.{AreBytes};
 ghost use Rattle.osc_model.specs.declared.late.Late.TheVariants.{Deliver};
@@ -34,7 +35,8 @@ pub fn a_written_entry_is_read_again()
         ≡ Some (record { caller = caller; event = event; answer = answer }) }
 {}
 
-/// Each entry has its own text: no two entries have one, and no entry's text is a proper front of another's.
+/// Each entry has its own text: no two entries have one, and no entry's text is a proper front of
+/// another's.
 pub fn entries_have_their_own_texts()
     ensures same { (one other : Recorded) →
         IsRecordable one.caller one.event one.answer →

@@ -1,4 +1,5 @@
-//! The recording of a server: the events that callers hand in, each with its answer, as a stream of sized messages.
+//! The recording of a server: the events that callers hand in, each with its answer, as a stream of
+//! sized messages.
 #![tactic(auto)]
 
 mod answers;
@@ -8,6 +9,7 @@ mod entries;
 mod entries_left;
 mod entry_messages;
 mod event;
+mod fields;
 mod header;
 pub mod laws;
 mod limits;

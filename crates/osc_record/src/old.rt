@@ -14,8 +14,9 @@ use crate::sized_messages::check_entries;
 use crate::version::Version;
 use std::marker::Model;
 
-/// A recording of the first version of the format, borrowed from its bytes; docs/FORMATS.md, "Old recordings", has what
-/// differs. A contract sees the limits, under which late units are delivered, and the entries, each at its place.
+/// A recording of the first version of the format, borrowed from its bytes; docs/FORMATS.md, "Old
+/// recordings", has what differs. A contract sees the limits, under which late units are delivered,
+/// and the entries, each at its place.
 #[derive(Drop)]
 pub struct Old<'a> {
     limits: Limits,
@@ -45,8 +46,9 @@ impl<'a> Old<'a> {
     ghost use Rattle.osc_record.specs.Reading.{IsMalformedIn};
     ghost use Rattle.osc_record.specs.Left.{entries_left};
 
-    /// Accepts exactly a recording of the first version, and borrows it. Else tells the first malformed place. Packets
-    /// and addresses may be any bytes that their arguments can hold. Takes no memory.
+    /// Accepts exactly a recording of the first version, and borrows it. Else tells the first
+    /// malformed place. Packets and addresses may be any bytes that their arguments can hold. Takes
+    /// no memory.
     pub fn check(bytes: &'a [u8]) -> Result<Old<'a>, Malformed>
         requires { length bytes.now ≤ max_recording }
         ensures ok { IfOk result (λ old. record_read First bytes.now ≡ Ok (old.caps, old.entries)) }
@@ -120,7 +122,8 @@ impl<'a> Old<'a> {
         self.limits.recording
     }
 
-    /// The entries, in order: each `Queued` has a `late` of 0, and each place is that in the old bytes.
+    /// The entries, in order: each `Queued` has a `late` of 0, and each place is that in the old
+    /// bytes.
     pub fn entries(&self) -> Entries<'a>
         ensures { entries_left result ≡ self.now.entries }
     {

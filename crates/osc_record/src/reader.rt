@@ -17,8 +17,8 @@ pub struct Malformed {
     pub at: u32,
 }
 
-/// A recording, borrowed from its bytes; docs/FORMATS.md, "The recording", has the format. A contract sees the limits,
-/// and the entries, each at its place.
+/// A recording, borrowed from its bytes; docs/FORMATS.md, "The recording", has the format. A
+/// contract sees the limits, and the entries, each at its place.
 #[derive(Drop)]
 pub struct Reader<'a> {
     caps: Caps,
@@ -46,8 +46,8 @@ impl<'a> Reader<'a> {
     ghost use Rattle.osc_record.specs.declared.version.Version.TheVariants.{Second};
     ghost use Rattle.osc_record.specs.Left.{entries_left};
 
-    /// Accepts exactly a recording, and borrows it. Else tells the first malformed place. Packets and addresses may be
-    /// any bytes that their arguments can hold. Takes no memory.
+    /// Accepts exactly a recording, and borrows it. Else tells the first malformed place. Packets
+    /// and addresses may be any bytes that their arguments can hold. Takes no memory.
     pub fn check(bytes: &'a [u8]) -> Result<Reader<'a>, Malformed>
         requires { length bytes.now ≤ max_recording }
         ensures ok { IfOk result

@@ -15,9 +15,9 @@ use osc_atoms::{write_tag, write_word};
 use std::alloc::{AllocError, Global};
 use std::marker::Model;
 
-/// A recording that entries are put into, in bytes that are reserved at opening; docs/FORMATS.md, "The recording", has
-/// the format. A contract sees the limits, the entries, and a release that is still owed hits. No call but `open` takes
-/// memory.
+/// A recording that entries are put into, in bytes that are reserved at opening; docs/FORMATS.md,
+/// "The recording", has the format. A contract sees the limits, the entries, and a release that is
+/// still owed hits. No call but `open` takes memory.
 #[derive(Drop)]
 pub struct Recorder {
     caps: Caps,

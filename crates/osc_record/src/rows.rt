@@ -89,7 +89,8 @@ pub(crate) fn append_submit(out: &mut Vec<u8>, caller: u32, packet: &[u8], answe
     append_submit_row(out, size, caller, packet, answer);
 }
 
-/// Appends the message of a submit after its size, number by number: a packet comes more often than anything else.
+/// Appends the message of a submit after its size, number by number: a packet comes more often than
+/// anything else.
 #[inline(always)]
 fn append_submit_row(out: &mut Vec<u8>, size: u32, caller: u32, packet: &[u8], answer: Numbers)
     requires packet { length packet.now ≤ MAX_BYTES }
@@ -197,7 +198,8 @@ pub(crate) fn append_remove(out: &mut Vec<u8>, caller: u32, address: &[u8], code
     append_word(out, id);
 }
 
-/// Appends what the message of an add or a remove has before its last numbers, after its size, number by number.
+/// Appends what the message of an add or a remove has before its last numbers, after its size,
+/// number by number.
 fn append_address_row(
     out: &mut Vec<u8>,
     size: u32,

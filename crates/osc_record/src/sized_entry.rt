@@ -18,7 +18,8 @@ use osc_atoms::Bytes;
 use osc_message::Arg;
 use std::alloc::{AllocError, Global};
 
-/// The bytes of an entry, its size first (docs/FORMATS.md, "The recording"). An `Err` means out of memory.
+/// The bytes of an entry, its size first (docs/FORMATS.md, "The recording"). An `Err` means out of
+/// memory.
 pub fn entry_bytes(
     alloc: Global,
     caller: u32,

@@ -10,8 +10,9 @@ use crate::sized_messages::first_entry;
 use crate::version::Version;
 use std::marker::Model;
 
-/// The entries of a recording that aren't read yet. No entry is looked at before it is asked for, so that a malformed
-/// place is told only where it is reached. A contract sees the limits, the place, and the bytes from there on.
+/// The entries of a recording that aren't read yet. No entry is looked at before it is asked for,
+/// so that a malformed place is told only where it is reached. A contract sees the limits, the
+/// place, and the bytes from there on.
 #[derive(Drop)]
 pub struct Unread<'a> {
     caps: Caps,
@@ -61,7 +62,8 @@ impl<'a> Unread<'a> {
         self.caps
     }
 
-    /// Passes over so many bytes without reading them. What is read after them is as it is where they are whole entries.
+    /// Passes over so many bytes without reading them. The next entry is then read from the place
+    /// after them: it is an entry of the recording if those bytes are whole entries.
     pub fn pass(&mut self, count: u32)
         requires { count ≤ length self.old.rest }
         ensures { self.new ≡ record self.old {
