@@ -1,9 +1,10 @@
 // Entries, read from the messages that they are.
 ghost use Rattle.osc_model.specs.Limits.{max_recording};
-ghost use Rattle.std.specs.Prelude.{◌≡◌, ◌==◌, ◌≤◌, ◌%◌, length, option_map};
+ghost use Rattle.std.specs.Prelude.{◌≡◌, ◌==◌, ◌≤◌, ◌%◌, length, option_map, false};
 ghost use Rattle.std.specs.Prelude.{IsTrue, IfSome};
 ghost use Rattle.std.specs.List.{starts_with};
 ghost use Rattle.osc_message.specs.Left.{left};
+ghost use Rattle.osc_record.specs.declared.entry_messages.TheConstants.{RELEASE};
 ghost use Rattle.osc_record.specs.Fields.{submit_at, release_at};
 ghost use Rattle.osc_record.specs.Reading.{enrol_read, add_read, remove_read, tick_read, entry_of};
 ghost use Rattle.osc_record.specs.Versions.{submit_front_in};
@@ -35,6 +36,7 @@ const TICK: [u8; 20] = *b"/osc/tick\0\0\0,itit\0\0\0";
 pub(crate) const RELEASE: [u8; 24] = *b"/osc/release\0\0\0\0,ihb\0\0\0\0";
 
 /// The entry that the message is.
+#[inline(always)]
 pub(crate) fn read_message(version: Version, bytes: &[u8]) -> Option<Parts<'_>>
     requires fours { length bytes.now % 4 ≡ 0 }
     requires small { length bytes.now ≤ max_recording }
@@ -44,9 +46,57 @@ pub(crate) fn read_message(version: Version, bytes: &[u8]) -> Option<Parts<'_>>
     // Most entries are submits and releases.
     if begins_submit(version, bytes) {
         read_submit(version, bytes)
-    } else if bytes.starts_with(&RELEASE) {
+    } else if begins_release(bytes) {
         read_release(bytes)
-    } else if bytes.starts_with(&TICK) {
+    } else {
+        read_other(version, bytes)
+    }
+}
+
+/// Whether the message begins as one of a submit.
+#[inline(always)]
+fn begins_submit(version: Version, bytes: &[u8]) -> bool
+    ensures value { result ≡ starts_with ◌==◌ bytes.now (submit_front_in version) }
+    ensures inside { IsTrue result → 20 ≤ length bytes.now }
+{
+    match version {
+        Version::First => begins(bytes, &OLD_SUBMIT),
+        Version::Second => begins(bytes, &SUBMIT),
+    }
+}
+
+/// Whether the message begins as one of a release.
+#[inline(always)]
+fn begins_release(bytes: &[u8]) -> bool
+    ensures value { result ≡ starts_with ◌==◌ bytes.now RELEASE }
+    ensures inside { IsTrue result → 24 ≤ length bytes.now }
+{
+    begins(bytes, &RELEASE)
+}
+
+/// Whether the bytes begin with these, compared all at once.
+#[inline(always)]
+fn begins<const N: usize>(bytes: &[u8], front: &[u8; N]) -> bool
+    ensures value { result ≡ starts_with ◌==◌ bytes.now front.now }
+    ensures inside { IsTrue result → N ≤ length bytes.now }
+{
+    match bytes.first_chunk::<N>() {
+        Some(first) => *front == *first,
+        None => false,
+    }
+}
+
+/// The entry that the message is, which is neither a submit nor a release.
+#[inline(never)]
+fn read_other(version: Version, bytes: &[u8]) -> Option<Parts<'_>>
+    requires fours { length bytes.now % 4 ≡ 0 }
+    requires small { length bytes.now ≤ max_recording }
+    requires no_submit { starts_with ◌==◌ bytes.now (submit_front_in version) ≡ false }
+    requires no_release { starts_with ◌==◌ bytes.now RELEASE ≡ false }
+    ensures value { option_map parts_of result ≡ entry_of version bytes.now }
+    ensures whole { IfSome result (λ parts. HasWholeHits parts.answer) }
+{
+    if bytes.starts_with(&TICK) {
         read_tick(Args::read(b"itit", bytes, 20)?)
     } else if bytes.starts_with(&ADD) {
         read_add(Args::read(b"isiii", bytes, 20)?)
@@ -56,17 +106,6 @@ pub(crate) fn read_message(version: Version, bytes: &[u8]) -> Option<Parts<'_>>
         read_enrol(Args::read(b"ii", bytes, 16)?)
     } else {
         None
-    }
-}
-
-/// Whether the message begins as one of a submit.
-fn begins_submit(version: Version, bytes: &[u8]) -> bool
-    ensures value { result ≡ starts_with ◌==◌ bytes.now (submit_front_in version) }
-    ensures inside { IsTrue result → 20 ≤ length bytes.now }
-{
-    match version {
-        Version::First => bytes.starts_with(&OLD_SUBMIT),
-        Version::Second => bytes.starts_with(&SUBMIT),
     }
 }
 
@@ -87,6 +126,7 @@ fn read_enrol<'a>(mut args: Args<'a>) -> Option<Parts<'a>>
     })
 }
 
+#[inline(always)]
 fn read_submit(version: Version, bytes: &[u8]) -> Option<Parts<'_>>
     requires fours { length bytes.now % 4 ≡ 0 }
     requires inside { 20 ≤ length bytes.now }
@@ -169,6 +209,7 @@ fn read_tick<'a>(mut args: Args<'a>) -> Option<Parts<'a>>
     })
 }
 
+#[inline(always)]
 fn read_release(bytes: &[u8]) -> Option<Parts<'_>>
     requires fours { length bytes.now % 4 ≡ 0 }
     requires inside { 24 ≤ length bytes.now }

@@ -11,6 +11,7 @@ use crate::parts::Parts;
 use crate::version::Version;
 
 /// The message after the size that the bytes begin with.
+#[inline(always)]
 pub(crate) fn first_message(bytes: &[u8]) -> Option<&[u8]>
     ensures value { option_map (λ message. message.now) result ≡ message_first bytes.now }
     ensures within { IfSome result (λ message. 4 + length message.now ≤ length bytes.now) }
@@ -28,6 +29,7 @@ pub(crate) fn first_message(bytes: &[u8]) -> Option<&[u8]>
 }
 
 /// The entry that the bytes begin with, and its size.
+#[inline(always)]
 pub(crate) fn first_entry(
     version: Version,
     limit: u32,

@@ -77,6 +77,7 @@ impl<'a> Unread<'a> {
     }
 
     /// Reads the next entry. Packets and addresses may be any bytes that their arguments can hold.
+    #[inline(always)]
     pub fn next_entry(&mut self) -> Result<Option<Entry<'a>>, Malformed>
         ensures end { IfOk result (λ next. IfNone next (self.old.rest ≡ [])) }
         ensures read { IfOk result
