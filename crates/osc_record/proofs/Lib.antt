@@ -14,6 +14,7 @@ pub mod RowsRead
 pub mod RowsIn
 pub mod EntriesRead
 pub mod FieldsRead
+pub mod Compared
 pub mod Fronts
 pub mod Stops
 pub mod Remaining

@@ -1,7 +1,8 @@
 // Entries, read from the messages that they are.
 ghost use Rattle.osc_model.specs.Limits.{max_recording};
-ghost use Rattle.std.specs.Prelude.{◌≡◌, ◌==◌, ◌≤◌, ◌%◌, length, option_map, false};
-ghost use Rattle.std.specs.Prelude.{IsTrue, IfSome};
+ghost use Rattle.std.specs.Prelude.{◌≡◌, ◌==◌, ◌↔◌, ◌+◌, ◌≤◌, ◌%◌, length, take, drop, option_map};
+ghost use Rattle.std.specs.Prelude.{IsTrue, IfSome, false};
+ghost use Rattle.std.specs.Int.{w32, from_be_bytes};
 ghost use Rattle.std.specs.List.{starts_with};
 ghost use Rattle.osc_message.specs.Left.{left};
 ghost use Rattle.osc_record.specs.declared.entry_messages.TheConstants.{RELEASE};
@@ -74,16 +75,44 @@ fn begins_release(bytes: &[u8]) -> bool
     begins(bytes, &RELEASE)
 }
 
-/// Whether the bytes begin with these, compared all at once.
+/// Whether the bytes begin with these, compared four at a time.
 #[inline(always)]
 fn begins<const N: usize>(bytes: &[u8], front: &[u8; N]) -> bool
+    requires fours { N % 4 ≡ 0 }
     ensures value { result ≡ starts_with ◌==◌ bytes.now front.now }
     ensures inside { IsTrue result → N ≤ length bytes.now }
 {
-    match bytes.first_chunk::<N>() {
-        Some(first) => *front == *first,
-        None => false,
+    if bytes.len() < N {
+        return false;
     }
+    let mut at = 0;
+    while at < N {
+        if !same_four(bytes, front, at) {
+            return false;
+        }
+        at += 4;
+    }
+    true
+}
+
+/// Whether the four bytes at `at` are the same, compared as numbers.
+#[inline(always)]
+fn same_four(bytes: &[u8], front: &[u8], at: usize) -> bool
+    requires bytes { at + 4 ≤ length bytes.now }
+    requires front { at + 4 ≤ length front.now }
+    ensures { IsTrue result ↔ (take 4 (drop at bytes.now) ≡ take 4 (drop at front.now)) }
+{
+    four_at(bytes, at) == four_at(front, at)
+}
+
+/// The four bytes at `at`, as a number.
+#[inline(always)]
+fn four_at(bytes: &[u8], at: usize) -> u32
+    requires { at + 4 ≤ length bytes.now }
+    ensures { result ≡ from_be_bytes w32 (take 4 (drop at bytes.now)) }
+{
+    let four = &bytes[at..];
+    u32::from_be_bytes([four[0], four[1], four[2], four[3]])
 }
 
 /// The entry that the message is, which is neither a submit nor a release.
