@@ -37,8 +37,7 @@ impl<'a> Model for Old<'a> {
 
 impl<'a> Old<'a> {
     ghost use Rattle.std.specs.Prelude.{◌≡◌, ◌≤◌, List, length, IfOk, IfErr, IsOkAnd, Ok, Err};
-    ghost use Rattle.osc_model.specs.Limits.{max_recording};
-    ghost use Rattle.osc_model.specs.Limits.{Limits as ModelLimits};
+    ghost use Rattle.osc_model.specs.Limits.{max_recording, Limits as ModelLimits};
     ghost use Rattle.osc_model.specs.Events.{Entry as Recorded};
     ghost use Rattle.osc_record.specs.declared.version.Version.TheVariants.{First};
     ghost use Rattle.osc_record.specs.Versions.{header_size_of, record_text_in};
