@@ -110,5 +110,6 @@ release_enters state after unit others hits lines prints first due hits_are line
         lines_are = refl;
       },
       lines_are
-          ∙ sym (ap (λ (s : Stepped). flat_map (line_where prints) s.invocations) stepped ∙ ap (λ (s : Stepped). flat_map (line_where prints) s.invocations) is),
+          ∙ sym (ap (λ (s : Stepped). flat_map (line_where prints) s.invocations) stepped
+          ∙ ap (λ (s : Stepped). flat_map (line_where prints) s.invocations) is),
     )

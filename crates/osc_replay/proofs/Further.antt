@@ -93,7 +93,7 @@ replayed_all bytes left caps state text entries adds prints is same none printed
       small = is.small;
     })
 
--- a fault that is no answer to a legal history's recording but for want of memory
+-- a fault that is no answer to the recording of a legal history, unless memory ran out
 pub short_at_most : (X : Type 0) (fault : ReplayFault) (text : List ℕ) → IsTextUnlessShort (Err fault) text → IsPlayedUnlessShort {X = X} (Err fault)
 short_at_most X (Malformed at) text is = absurd is
 short_at_most X (Disagrees entry kept computed) text is = absurd is

@@ -177,7 +177,8 @@ stands of state entry small gives =
     let few : entry_size event answer ≤ 1073741824 = omega (arith, four_more event answer, room) in
     let today : IsRecordable entry.caller event answer =
     subst (IsRecordable entry.caller event) (sym there)
-    (sized_fits of.answers entry.caller w event gives.0 (small_today state small) gives.1 adds (subst (λ (a : Answer). entry_size event a ≤ 1073741824) there few)) in
+    (sized_fits of.answers entry.caller w event gives.0 (small_today state small) gives.1 adds
+    (subst (λ (a : Answer). entry_size event a ≤ 1073741824) there few)) in
     let old_fits : FitsRow (old_row_of entry.caller event answer) = old_row entry.caller event answer today.fits in
     let fits : FitsBoth entry = record { old = old_fits; new = today.fits } in
     let old_size : length (old_text_of entry) ≡ old_entry_size event answer = old_sizes_are entry.caller event answer old_fits in

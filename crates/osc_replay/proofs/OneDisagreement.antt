@@ -58,7 +58,8 @@ pub one_disagrees : (bytes : List ℕ) (one two : ℕ) (kept own computed given 
 one_disagrees bytes one two kept own computed given d e =
     let same = texts_differ d.caps e.caps (d.before ++ d.entry ∷ d.later) (e.before ++ e.entry ∷ e.later) d.formed.record_ e.formed.record_
     (sym d.text ∙ e.text) in
-    let text : (c : Limits) (before : List Entry) (entry : Entry) → List ℕ = λ c before entry. computed_text (after (opening c) before) entry.caller entry.event in
+    let text : (c : Limits) (before : List Entry) (entry : Entry) → List ℕ =
+    λ c before entry. computed_text (after (opening c) before) entry.caller entry.event in
     let caps : d.caps ≡ e.caps = same.0 in
     let are = first_missed (opening d.caps) d.before e.before d.entry e.entry d.later e.later d.legal.1
     (subst (λ (c : Limits). LegalFrom (opening c) e.before) (sym caps) e.legal.1) same.1

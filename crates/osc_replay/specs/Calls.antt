@@ -1,5 +1,5 @@
--- Inside the crate: the calls of a release: their hits as a recording has them, and their lines where
--- they are printed.
+-- Inside the crate: the calls of a release: their hits as a recording has them, and their lines
+-- where they are printed.
 use Rattle.std.specs.Prelude.{ℕ, Bool, true, false, List, []}
 use Rattle.std.specs.List.{flat_map}
 use Rattle.osc_print.specs.Entries.{invocation_text}

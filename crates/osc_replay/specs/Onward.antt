@@ -1,5 +1,6 @@
 -- A recording that was played again, and one that goes on from it.
-use Rattle.std.specs.Prelude.{◌≡◌, ℕ, ◌≤◌, Bool, true, List, ◌++◌, length, count_by, Result, Ok, Err}
+use Rattle.std.specs.Prelude.{◌≡◌, ℕ, ◌≤◌, Bool, true, List, ◌++◌, length, count_by, Result, Ok}
+use Rattle.std.specs.Prelude.{Err}
 use Rattle.osc_model.specs.Limits.{Limits, max_recording}
 use Rattle.osc_model.specs.State.{State, opening}
 use Rattle.osc_model.specs.Events.{Entry, is_added}

@@ -1,4 +1,5 @@
--- A recording that may have more bytes: the limits and the state of its server, and what is printed.
+-- A recording that may have more bytes: the limits and the state of its server, and what is
+-- printed.
 use Rattle.std.specs.Prelude.{◌≡◌, ℕ, List, ◌++◌}
 use Rattle.osc_model.specs.Limits.{Limits}
 use Rattle.osc_model.specs.State.{State, opening}

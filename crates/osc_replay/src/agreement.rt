@@ -7,6 +7,7 @@ ghost use Rattle.osc_record.specs.Shown.{answer_of, HasWholeHits};
 use osc_record::Answer;
 
 /// Whether two answers have one text.
+#[inline(always)]
 pub(crate) fn agree(kept: Answer<'_>, computed: Answer<'_>) -> bool
     requires kept { HasWholeHits kept }
     requires computed { HasWholeHits computed }

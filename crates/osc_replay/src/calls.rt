@@ -1,5 +1,6 @@
 // The calls that a release makes.
-ghost use Rattle.std.specs.Prelude.{◌≡◌, ◌<◌, ◌≤◌, ◌++◌, ◌∷◌, [], map, All, Some, IsSome, OnOk, true};
+ghost use Rattle.std.specs.Prelude.{◌≡◌, ◌<◌, ◌≤◌, ◌++◌, ◌∷◌, [], map, All, Some, IsSome, OnOk};
+ghost use Rattle.std.specs.Prelude.{true};
 ghost use Rattle.osc_tree.specs.Registry.{address_by_id};
 ghost use Rattle.osc_model.specs.Step.{calls_of, calls_from};
 ghost use Rattle.osc_replay.specs.Calls.{hits_bytes, call_lines};

@@ -37,8 +37,8 @@ pub struct Checked {
     pub caps: Caps,
 }
 
-/// Plays a recording again as `replay` does, and prints nothing. Refuses bytes that are malformed anywhere, and else
-/// the first entry that the server doesn't give.
+/// Plays a recording again as `replay` does, and prints nothing. Refuses bytes that are malformed
+/// anywhere, and else the first entry that the server doesn't give.
 pub fn check(alloc: Global, recording: &[u8]) -> Result<Checked, ReplayFault>
     requires { length recording.now ≤ max_recording }
     ensures ok { IfOk result

@@ -17,7 +17,8 @@ use std::alloc::{AllocError, Global};
 /// Why a recording isn't dumped.
 #[derive(Clone, Copy, Debug, PartialEq, Eq)]
 pub enum DumpFault {
-    /// The place of the header, or of the first entry, that is malformed (docs/FORMATS.md, "The recording").
+    /// The place of the header, or of the first entry, that is malformed (docs/FORMATS.md, "The
+    /// recording").
     Malformed { at: u32 },
     NoMemory,
 }
@@ -38,8 +39,8 @@ impl From<Malformed> for DumpFault {
     }
 }
 
-/// The dump of a recording (docs/FORMATS.md, "Dumps"): its limits, and all its entries as they stand, whether a server
-/// would give them or not. Refuses bytes that are malformed anywhere.
+/// The dump of a recording (docs/FORMATS.md, "Dumps"): its limits, and all its entries as they
+/// stand, whether a server would give them or not. Refuses bytes that are malformed anywhere.
 pub fn dump(alloc: Global, recording: &[u8]) -> Result<Text, DumpFault>
     requires { length recording.now ≤ max_recording }
     ensures ok { IfOk result

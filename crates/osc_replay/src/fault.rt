@@ -10,12 +10,14 @@ use std::alloc::AllocError;
 /// The bytes aren't the recording of a server, or there is no memory.
 #[derive(Drop)]
 pub enum ReplayFault {
-    /// The place of the header, or of the first entry, that is malformed (docs/FORMATS.md, "The recording").
+    /// The place of the header, or of the first entry, that is malformed (docs/FORMATS.md, "The
+    /// recording").
     Malformed {
         at: u32,
     },
-    /// The first entry, counted from 0, whose bytes aren't those that the server computes for its caller and event.
-    /// `computed` is empty where the caller isn't enrolled or the server adds no entry.
+    /// The first entry, counted from 0, whose bytes aren't those that the server computes for its
+    /// caller and event. `computed` is empty where the caller isn't enrolled or the server adds no
+    /// entry.
     Disagrees {
         entry: u32,
         kept: Bytes,

@@ -19,8 +19,8 @@ use osc_packet::{MAX_PACKET, Packet};
 use osc_pattern::Address;
 use osc_record::{Event, Malformed, Reader, Unread};
 
-/// Accepts exactly a recording whose packets are valid and whose addresses are lawful, and borrows it. Else tells the
-/// first malformed place (docs/FORMATS.md, "The recording"). Takes no memory.
+/// Accepts exactly a recording whose packets are valid and whose addresses are lawful, and borrows
+/// it. Else tells the first malformed place (docs/FORMATS.md, "The recording"). Takes no memory.
 pub fn well_formed(bytes: &[u8]) -> Result<Reader<'_>, Malformed>
     requires { length bytes.now ≤ max_recording }
     ensures ok { IfOk result
@@ -42,6 +42,7 @@ pub fn well_formed(bytes: &[u8]) -> Result<Reader<'_>, Malformed>
 }
 
 /// Reads the next entry, whose packet or address has to be lawful.
+#[inline(always)]
 pub(crate) fn next_row<'a>(unread: &mut Unread<'a>) -> Result<Option<Row<'a>>, Malformed>
     ensures end { IfOk result (λ next. IfNone next (unread.old.rest ≡ [])) }
     ensures read { IfOk result

@@ -1,5 +1,6 @@
-//! What a printed history says, and that it says the same where the recording may be larger. Old recordings are formed, and
-//! one malformed place at most is reported. These functions do nothing; their contracts are the laws.
+//! What a printed history says, and that it says the same where the recording may be larger. Old
+//! recordings are formed, and one malformed place at most is reported. These functions do nothing;
+//! their contracts are the laws.
 ghost use Rattle.std.specs.Prelude.{◌≡◌, ◌≤◌, ℕ, List, [], ◌∷◌};
 ghost use Rattle.osc_model.specs.declared.late.Late.TheVariants.{Deliver};
 ghost use Rattle.osc_model.specs.Limits.{Limits, limits_of, max_recording};
@@ -12,8 +13,8 @@ ghost use Rattle.osc_replay.specs.Disagreeing.{DisagreesAt, IsRecordingOf};
 ghost use Rattle.osc_replay.specs.Formed.{IsFormed, IsUnformedAt};
 ghost use Rattle.osc_replay.specs.Old.{IsOldFormed, IsOldUnformedAt, OldLegal};
 
-/// An entry prints its line and one call line for each of its invocations, each of a method that was registered
-/// before the entry and whose address the pattern of the message matches.
+/// An entry prints its line and one call line for each of its invocations, each of a method that
+/// was registered before the entry and whose address the pattern of the message matches.
 pub fn printed_calls_are_of_matching_methods()
     ensures { (caps : Limits) (before behind : List Entry) (entry : Entry)
         → PrintsEntry caps before entry behind }
@@ -21,9 +22,10 @@ pub fn printed_calls_are_of_matching_methods()
     osc_model::laws::invocations_are_of_registered_methods();
 }
 
-/// A legal history is legal too where its recording may have more bytes, and prints the same lines, those of what was
-/// refused among them. So what is printed of a history that goes on from it begins with these lines. It isn't so with more
-/// of anything else: a caller for whom there was no place has one where there may be two.
+/// A legal history is legal too where its recording may have more bytes, and prints the same lines,
+/// those of what was refused among them. So what is printed of a history that goes on from it
+/// begins with these lines. It isn't so with more of anything else: a caller for whom there was no
+/// place has one where there may be two.
 pub fn a_larger_recording_prints_the_same()
     ensures same { (room : ℕ) (caps : Limits) (history : List Entry) → caps.recording ≤ room
         → room ≤ max_recording → Legal caps history → PrintsTheSameIn room caps history }
@@ -33,8 +35,9 @@ pub fn a_larger_recording_prints_the_same()
         (record { caller = 0; event = enrol; answer = callers_full } ∷ []) }
 {}
 
-/// A history that a server of the first version gave is formed: its entries can be recorded in that version and fit the
-/// limit. So each recording of then can be upgraded, where it isn't too large as one of today.
+/// A history that a server of the first version gave is formed: its entries can be recorded in that
+/// version and fit the limit. So each recording of then can be upgraded, where it isn't too large
+/// as one of today.
 pub fn an_old_history_is_formed()
     ensures { (caps : Limits) (history : List Entry) → OldLegal caps history
         → IsOldFormed caps history }
@@ -55,8 +58,9 @@ pub fn a_malformed_place_is_the_only_one()
         → IsOldUnformedAt bytes two → one ≡ two }
 {}
 
-/// The entry that the server doesn't give is one at most, with the bytes that are kept and those that are computed. Where
-/// one is there, no place is malformed and the bytes record no legal history.
+/// The entry that the server doesn't give is one at most, with the bytes that are kept and those
+/// that are computed. Where one is there, no place is malformed and the bytes record no legal
+/// history.
 pub fn a_disagreeing_entry_is_the_only_one()
     ensures entry { (bytes : List ℕ) (one two : ℕ) (kept own computed given : List ℕ)
         → DisagreesAt bytes one kept computed → DisagreesAt bytes two own given

@@ -1,5 +1,5 @@
-//! Recordings, replayed: each answer is computed again by a plain sequential server, and the performance is printed
-//! from it (docs/FORMATS.md, "The recording" and "Printed text").
+//! Recordings, replayed: each answer is computed again by a plain sequential server, and the
+//! performance is printed from it (docs/FORMATS.md, "The recording" and "Printed text").
 #![tactic(auto)]
 
 mod agreement;

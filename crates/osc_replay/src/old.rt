@@ -11,8 +11,9 @@ ghost use Rattle.osc_replay.specs.Unlawful.{first_unlawful_in};
 use crate::form::lawful_event;
 use osc_record::{Entries, Malformed, Old};
 
-/// Accepts exactly a recording of the first version whose packets are valid and whose addresses are lawful, and borrows
-/// it. Else tells the first malformed place (docs/FORMATS.md, "Old recordings"). Takes no memory.
+/// Accepts exactly a recording of the first version whose packets are valid and whose addresses are
+/// lawful, and borrows it. Else tells the first malformed place (docs/FORMATS.md, "Old
+/// recordings"). Takes no memory.
 pub(crate) fn well_formed_old(bytes: &[u8]) -> Result<Old<'_>, Malformed>
     requires { length bytes.now ≤ max_recording }
     ensures ok { IfOk result

@@ -13,8 +13,8 @@ use osc_record::{Caps, HEADER_SIZE, Unread};
 use std::alloc::{AllocError, Global};
 use std::marker::Model;
 
-/// A recording that was played again, and its printed text. It can go on where that recording went on. A contract sees
-/// the recording.
+/// A recording that was played again, and its printed text. It can go on where that recording went
+/// on. A contract sees the recording.
 #[derive(Drop)]
 pub struct Replay<'a> {
     played: Played<'a>,
@@ -44,8 +44,8 @@ impl<'a> Replay<'a> {
     ghost use Rattle.osc_replay.specs.Onward.{GoesOnFrom, IsPlayedUnlessShort};
     ghost use Rattle.osc_replay.specs.Printed.{printed};
 
-    /// Plays a recording again, and prints it. Refuses bytes that are malformed anywhere, and else the first entry that
-    /// the server doesn't give.
+    /// Plays a recording again, and prints it. Refuses bytes that are malformed anywhere, and else
+    /// the first entry that the server doesn't give.
     pub fn open(alloc: Global, recording: &'a [u8]) -> Result<Replay<'a>, ReplayFault>
         requires { length recording.now ≤ max_recording }
         ensures recording { IfOk result (λ replay. replay ≡ recording.now) }
@@ -97,8 +97,9 @@ impl<'a> Replay<'a> {
         }
     }
 
-    /// Goes on with a recording that begins with the entries of this one, and may have more bytes. The entries that were
-    /// played already aren't read, played or printed again. The `Err` means out of memory.
+    /// Goes on with a recording that begins with the entries of this one, and may have more bytes.
+    /// The entries that were played already aren't read, played or printed again. The `Err` means
+    /// out of memory.
     pub fn go_on(self, alloc: Global, recording: &'a [u8]) -> Result<Replay<'a>, AllocError>
         requires { GoesOnFrom self recording.now }
         ensures { IfOk result (λ replay. replay ≡ recording.now) }

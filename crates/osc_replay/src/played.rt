@@ -13,7 +13,7 @@ use osc_print::Text;
 use osc_record::{Caps, Unread};
 use std::alloc::{AllocError, Global};
 
-/// A recording, and what the rows came to that were played so far.
+/// A recording, and the result of its rows that were played so far.
 #[derive(Drop)]
 pub(crate) struct Played<'a> {
     pub(crate) recording: &'a [u8],
@@ -58,8 +58,8 @@ impl<'a> Played<'a> {
         })
     }
 
-    /// Plays the rows that are left, and prints them. Refuses bytes that are malformed anywhere, and else the first
-    /// entry that the server doesn't give.
+    /// Plays the rows that are left, and prints them. Refuses bytes that are malformed anywhere,
+    /// and else the first entry that the server doesn't give.
     pub(crate) fn play_rest(
         &mut self,
         alloc: Global,

@@ -26,8 +26,9 @@ use osc_print::{Text, entry_line};
 use osc_record::{Answer, Entry, entry_bytes};
 use std::alloc::Global;
 
-/// The printed history of a recording (docs/FORMATS.md, "Printed text"), as a server with its limits plays it again.
-/// Refuses bytes that are malformed anywhere, and else the first entry that the server doesn't give.
+/// The printed history of a recording (docs/FORMATS.md, "Printed text"), as a server with its
+/// limits plays it again. Refuses bytes that are malformed anywhere, and else the first entry that
+/// the server doesn't give.
 pub fn replay(alloc: Global, recording: &[u8]) -> Result<Text, ReplayFault>
     requires { length recording.now ≤ max_recording }
     ensures ok { IfOk result
@@ -88,6 +89,7 @@ pub(crate) fn replay_row<'a>(
 }
 
 /// Tells whether the answer of the entry with a number is the one that is computed.
+#[inline(always)]
 pub(crate) fn agreed(
     alloc: Global,
     number: u32,
@@ -123,6 +125,7 @@ pub(crate) fn agreed(
 }
 
 /// Prints the entry with a number and its lines, if its answer is the one that is computed.
+#[inline(always)]
 fn print_agreed(
     alloc: Global,
     text: &mut Text,

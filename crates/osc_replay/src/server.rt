@@ -9,7 +9,7 @@ ghost use Rattle.osc_replay.specs.Events.{event_in};
 use crate::calls::{Calls, find_calls};
 use crate::event::LawfulEvent;
 use crate::outcome::Outcome;
-use crate::units::{Queued, enter_all};
+use crate::units::{Queued, enter_packet};
 use osc_atoms::Room;
 use osc_model::{Late, Need, need_of};
 use osc_packet::Packet;
@@ -23,10 +23,11 @@ use osc_tree::{Hits, Tree, TreeRefusal};
 use std::alloc::{AllocError, Global};
 use std::marker::Model;
 
-/// A server: methods by address, units that wait for their moment, a clock, callers, and how many bytes are recorded.
-/// The units stay where they stand in the recording. A contract sees its state.
+/// A server: methods by address, units that wait for their moment, a clock, callers, and how many
+/// bytes are recorded. The units stay where they stand in the recording. A contract sees its state.
 ///
-/// An `Err` of its calls means out of memory. After it, and where no entry is added, the server isn't to be used again.
+/// An `Err` of its calls means out of memory. After it, and where no entry is added, the server
+/// isn't to be used again.
 #[derive(Drop)]
 pub(crate) struct Server<'a> {
     alloc: Global,
@@ -122,8 +123,8 @@ impl<'a> Server<'a> {
         self.record_limit = room;
     }
 
-    /// The result of a caller's event. It is no entry where the caller isn't enrolled or the rules add none. A release
-    /// makes `calls` its own.
+    /// The result of a caller's event. It is no entry where the caller isn't enrolled or the rules
+    /// add none. A release makes `calls` its own.
     pub(crate) fn play(
         &mut self,
         caller: u32,
@@ -212,13 +213,7 @@ impl<'a> Server<'a> {
             return Answer::PoolFull(Room::new(need as u64, free as u64));
         }
         let first = self.next_unit;
-        enter_all(
-            &mut self.queue,
-            packet.units(),
-            self.late,
-            self.clock,
-            first,
-        );
+        enter_packet(&mut self.queue, packet, self.late, self.clock, first);
         self.used += need;
         self.next_unit += count as u64;
         Answer::Queued {

@@ -10,8 +10,8 @@ use osc_print::Text;
 use osc_record::Reader;
 use std::alloc::{AllocError, Global};
 
-/// The summary of the history that a server recorded, ten lines (docs/FORMATS.md, "Summaries"). An `Err` means out of
-/// memory.
+/// The summary of the history that a server recorded, ten lines (docs/FORMATS.md, "Summaries"). An
+/// `Err` means out of memory.
 pub fn summary(alloc: Global, recording: &[u8]) -> Result<Text, AllocError>
     requires { (caps : Limits) × (history : List Recorded)
         × IsRecordingOf recording.now caps history }

@@ -1,5 +1,6 @@
 // Units that wait, with the blocks that they take.
 ghost use Rattle.std.specs.Prelude.{◌≡◌, ◌≤◌, ◌+◌, ◌<◌, ◌^◌, ◌∷◌, [], length};
+ghost use Rattle.osc_packet.specs.Reading.{units_read};
 ghost use Rattle.osc_queue.specs.Timed as timed;
 ghost use Rattle.osc_model.specs.State.{AreNumbered};
 ghost use Rattle.osc_model.specs.Step as step;
@@ -60,8 +61,32 @@ impl<'a> Queued<'a> {
     }
 }
 
+/// The units of a packet that are kept enter, numbered from `first` on as all of them are. Most
+/// packets are a message alone, which has one unit.
+pub(crate) fn enter_packet<'a>(
+    queue: &mut Queue<Queued<'a>>,
+    packet: &Packet<'a>,
+    late: Late,
+    clock: u64,
+    first: u64,
+)
+    requires given { AreNumbered first queue.old.items }
+    requires numbers { first + length (units_read packet.now) < 2 ^ 64 }
+    requires places { length queue.old.items + length (step.kept late clock (units_read packet.now))
+        ≤ queue.old.limit }
+    ensures items { queue.new.items
+        ≡ step.enter_all (step.kept_numbered late clock first (units_read packet.now))
+        queue.old.items }
+    ensures limit { queue.new.limit ≡ queue.old.limit }
+{
+    match packet.alone() {
+        Some(unit) => enter_kept(queue, unit, late, clock, first),
+        None => enter_all(queue, packet.units(), late, clock, first),
+    }
+}
+
 /// The units that are kept enter, numbered from `first` on as all of them are.
-pub(crate) fn enter_all<'a>(
+fn enter_all<'a>(
     queue: &mut Queue<Queued<'a>>,
     units: Units<'a>,
     late: Late,

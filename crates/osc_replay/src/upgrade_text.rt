@@ -24,7 +24,8 @@ use std::alloc::{AllocError, Global};
 /// Why a recording isn't upgraded.
 #[derive(Clone, Copy, Debug, PartialEq, Eq)]
 pub enum UpgradeFault {
-    /// The place of the header, or of the first entry, that is malformed (docs/FORMATS.md, "Old recordings").
+    /// The place of the header, or of the first entry, that is malformed (docs/FORMATS.md, "Old
+    /// recordings").
     Malformed { at: u32 },
     /// The upgraded recording needs more bytes than the limit.
     TooLarge { need: u64, limit: u32 },
@@ -50,8 +51,9 @@ impl From<Malformed> for UpgradeFault {
 /// The bytes of the header and of each submit that the first version lacks.
 const ADDED: u64 = 4;
 
-/// A recording of the first version as one of today with the same entries (docs/FORMATS.md, "Old recordings"). Late
-/// units are delivered; the recording's limit grows as the recording does, up to `limit`.
+/// A recording of the first version as one of today with the same entries (docs/FORMATS.md, "Old
+/// recordings"). Late units are delivered; the recording's limit grows as the recording does, up to
+/// `limit`.
 pub fn upgrade(alloc: Global, recording: &[u8], limit: u32) -> Result<Bytes, UpgradeFault>
     requires small { length recording.now ≤ max_recording }
     requires least { header_size ≤ limit }

@@ -36,5 +36,6 @@ returns-clause-hits c =
 
 pub returns-clause-lines : goal.returns-clause-lines
 returns-clause-lines c =
-    subst (λ (l : List Call). OnOk c.push_hits.result (c.push_hits.new.calls.lines ≡ c.args.calls.now.lines ++ call_lines c.args.calls.now.prints c.args.unit l))
+    subst (λ (l : List Call). OnOk c.push_hits.result
+    (c.push_hits.new.calls.lines ≡ c.args.calls.now.lines ++ call_lines c.args.calls.now.prints c.args.unit l))
     (calls_are c) c.push_hits.ensures.lines

@@ -31,13 +31,17 @@ agreed-requires-clause-computed_small c =
 pub agreed-requires-in-Released-clause-computed : goal.agreed-requires-in-Released-clause-computed
 agreed-requires-in-Released-clause-computed c =
     made_fits c.a_legal_history_is_recordable.ensures.next c.args.server.now c.play.new.self (placed_of c.args.row.entry).entry
-    (released c.in-Released.unit (hits_in c.as_slice-hits.result.now)) (flat_map invocation_text (step c.args.server.now release).invocations)
+    (released c.in-Released.unit (hits_in c.as_slice-hits.result.now))
+    (flat_map invocation_text (step c.args.server.now release).invocations)
     (played_released c.args.server.now c.play.new.self c.args.row c.play.new.calls c.in_ok-answer.field-0 c.in-Released.unit c.as_slice-hits.result.now
-    (flat_map invocation_text (step c.args.server.now release).invocations) c.requires.reached c.in-Released.is c.in_ok-answer.ensures.comes c.as_slice-hits.ensures.value refl)
+    (flat_map invocation_text (step c.args.server.now release).invocations) c.requires.reached c.in-Released.is
+    c.in_ok-answer.ensures.comes c.as_slice-hits.ensures.value refl)
 
 pub agreed-requires-in-Released-clause-computed_small : goal.agreed-requires-in-Released-clause-computed_small
 agreed-requires-in-Released-clause-computed_small c =
     made_small c.a_performance_goes_on.ensures.legal c.a_legal_history_is_recordable.ensures.within c.args.server.now c.play.new.self
-    (placed_of c.args.row.entry).entry (released c.in-Released.unit (hits_in c.as_slice-hits.result.now)) (flat_map invocation_text (step c.args.server.now release).invocations)
+    (placed_of c.args.row.entry).entry (released c.in-Released.unit (hits_in c.as_slice-hits.result.now))
+    (flat_map invocation_text (step c.args.server.now release).invocations)
     (played_released c.args.server.now c.play.new.self c.args.row c.play.new.calls c.in_ok-answer.field-0 c.in-Released.unit c.as_slice-hits.result.now
-    (flat_map invocation_text (step c.args.server.now release).invocations) c.requires.reached c.in-Released.is c.in_ok-answer.ensures.comes c.as_slice-hits.ensures.value refl)
+    (flat_map invocation_text (step c.args.server.now release).invocations) c.requires.reached c.in-Released.is
+    c.in_ok-answer.ensures.comes c.as_slice-hits.ensures.value refl)

@@ -58,8 +58,8 @@ returns-in-Some-first_malformed-clause-complete c = λ caps history is.
     (let row = c.in-Some.row in
     let reads = of_some (λ (row : Row). Reads c.loop-row.unread (placed_of row.entry) c.next_row.new.unread) c.in_ok-row.field-0 c.in-Some.row c.in-Some.is
     c.in_ok-row.ensures.read in
-    none_malformed c.a_legal_history_is_recordable.ensures.all c.a_legal_history_is_recordable.ensures.within c.args.self.now.recording.now c.in-Some-first_malformed.at
-    caps history
+    none_malformed c.a_legal_history_is_recordable.ensures.all c.a_legal_history_is_recordable.ensures.within c.args.self.now.recording.now
+    c.in-Some-first_malformed.at caps history
     (later_unformed c.args.self.now.recording.now c.loop-row.unread c.next_row.new.unread
     (placed_of row.entry) c.loop-row.self.server c.loop-row.self.text c.loop-row.self.entries c.in-Some-first_malformed.at
     (played_of c.args.self.now.recording.now c.loop-row.unread c.loop-row.self.server c.loop-row.self.text c.loop-row.self.entries
@@ -106,7 +106,8 @@ one_more-self-requires c =
     omega (
       arith,
       small,
-      few_counted c.args.self.now.recording.now c.loop-row.unread c.loop-row.self.server c.loop-row.self.text c.loop-row.self.entries c.loop-row.self.adds c.loop-row.invariant.replayed,
+      few_counted c.args.self.now.recording.now c.loop-row.unread c.loop-row.self.server c.loop-row.self.text c.loop-row.self.entries
+          c.loop-row.self.adds c.loop-row.invariant.replayed,
       few_played c.args.self.now.recording.now c.loop-row.unread c.loop-row.self.server c.loop-row.self.text c.loop-row.self.entries
           (played_of c.args.self.now.recording.now c.loop-row.unread c.loop-row.self.server c.loop-row.self.text c.loop-row.self.entries
           c.loop-row.self.adds c.loop-row.invariant.replayed),
@@ -127,7 +128,8 @@ loop-row-preserved c =
     let more : c.one_more-self.result ≡ c.loop-row.self.adds + cond (is_added (placed_of row.entry).entry.answer) 1 0 =
     c.one_more-self.ensures ∙ ap (λ (t : Bool). c.loop-row.self.adds + cond t 1 0) c.is_added-added.ensures in
     record {
-      replayed = subst (λ (n : ℕ). IsReplayedTo c.args.self.now.recording.now c.next_row.new.unread c.replay_row.new.server c.replay_row.new.text (c.loop-row.self.entries + 1) n)
+      replayed = subst (λ (n : ℕ). IsReplayedTo c.args.self.now.recording.now c.next_row.new.unread c.replay_row.new.server c.replay_row.new.text
+          (c.loop-row.self.entries + 1) n)
           (sym more)
           (replayed_more c.args.self.now.recording.now c.loop-row.unread c.next_row.new.unread
           (placed_of row.entry) c.loop-row.self.server c.replay_row.new.server c.loop-row.self.text c.replay_row.new.text c.loop-row.self.entries
@@ -140,8 +142,8 @@ loop-row-preserved c =
 
 pub returns-clause-ok : goal.returns-clause-ok
 returns-clause-ok c =
-    replayed_all c.args.self.now.recording.now c.loop-row.unread c.args.unread.caps c.loop-row.self.server c.loop-row.self.text c.loop-row.self.entries c.loop-row.self.adds
-    c.loop-row.self.calls.prints c.loop-row.invariant.replayed c.loop-row.invariant.caps
+    replayed_all c.args.self.now.recording.now c.loop-row.unread c.args.unread.caps c.loop-row.self.server c.loop-row.self.text
+    c.loop-row.self.entries c.loop-row.self.adds c.loop-row.self.calls.prints c.loop-row.invariant.replayed c.loop-row.invariant.caps
     (of_none c.in_ok-row.field-0 c.in_default.not-Some c.in_ok-row.ensures.end) c.loop-row.invariant.printed
 
 pub returns-clause-recording : goal.returns-clause-recording
