@@ -11,7 +11,7 @@ use Rattle.hex.proofs.HexLemmas.{length-encode_with}
 use Rattle.osc_atoms.specs.Atoms.{tag}
 use Rattle.osc_pattern.specs.Addresses.{is_address}
 use Rattle.osc_script.specs.Acts.{act_of, address_of, and_then}
-use Rattle.osc_script.specs.Scripts.{line_says, line_from, on_lane, onto, script_from, script_of, words_say}
+use Rattle.osc_script.specs.Scripts.{line_says, line_from, on_lane, onto, script_from, said_of, script_of, words_by}
 use Rattle.osc_script.specs.Kinds.{address_kind, too_long_kind}
 use Rattle.osc_script.specs.Words.{lines_of, words_of}
 use Rattle.osc_script.specs.declared.act.Act.{Act}
@@ -53,28 +53,28 @@ unfolding act_of
 each_read (Add address) is =
     let inked = address_inked address is in
     record {
-      says = ap (words_say Plain) (two_words (codes "add") address refl (omega arith) inked.0 inked.1)
+      says = ap (words_by (said_of Plain)) (two_words (codes "add") address refl (omega arith) inked.0 inked.1)
           ∙ ap (λ r. spoken (and_then r (λ address. Ok (Add address)))) (address_read address is);
       inside = two_inside (codes "add") address refl inked.0;
     }
 each_read (Remove address) is =
     let inked = address_inked address is in
     record {
-      says = ap (words_say Plain) (two_words (codes "remove") address refl (omega arith) inked.0 inked.1)
+      says = ap (words_by (said_of Plain)) (two_words (codes "remove") address refl (omega arith) inked.0 inked.1)
           ∙ ap (λ r. spoken (and_then r (λ address. Ok (Remove address)))) (address_read address is);
       inside = two_inside (codes "remove") address refl inked.0;
     }
 each_read (Send packet) is =
     let inked = digits_inked packet is.0 in
     record {
-      says = ap (words_say Plain) (two_words (codes "send") (encode_lower packet) refl (omega arith) inked (digits_some packet is.1))
+      says = ap (words_by (said_of Plain)) (two_words (codes "send") (encode_lower packet) refl (omega arith) inked (digits_some packet is.1))
           ∙ ap (λ r. spoken (and_then r (λ packet. Ok (Send packet)))) (lower_again packet is.0);
       inside = two_inside (codes "send") (encode_lower packet) refl inked;
     }
 each_read (Tick moment) is =
     let inked = digits_inked (tag moment) (moment_bytes moment) in
     record {
-      says = ap (words_say Plain) (two_words (codes "tick") (encode_lower (tag moment)) refl (omega arith) inked (digits_some (tag moment) (omega arith)))
+      says = ap (words_by (said_of Plain)) (two_words (codes "tick") (encode_lower (tag moment)) refl (omega arith) inked (digits_some (tag moment) (omega arith)))
           ∙ ap (λ r. spoken (and_then r (λ moment. Ok (Tick moment)))) (moment_again moment is);
       inside = two_inside (codes "tick") (encode_lower (tag moment)) refl inked;
     }

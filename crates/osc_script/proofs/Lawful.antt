@@ -21,7 +21,7 @@ use Rattle.osc_script.specs.Kinds.{word_kind, count_kind, address_kind, tag_kind
 use Rattle.osc_script.specs.Words.{words_of, is_line_feed, lines_from, lines_of}
 use Rattle.osc_script.specs.Acts.{and_then, only_of, pump_of, decoded, address_of, packet_of, moment_of, act_of, is_known, has_count, served_of, IsLawfulAct}
 use Rattle.osc_script.specs.Lanes.{number_of, within_lanes, lane_of}
-use Rattle.osc_script.specs.Scripts.{on_lane, in_lane, said_of, words_say, line_says, line_from, onto, script_from, script_of, AreLawful, IsOf, AreOf}
+use Rattle.osc_script.specs.Scripts.{on_lane, in_lane, said_of, words_by, line_says, line_from, onto, script_from, script_of, AreLawful, IsOf, AreOf}
 use Rattle.osc_script.proofs.Lines.{behind}
 
 -- where a step on what was read gives a value, there was one
@@ -159,7 +159,7 @@ said_fits Serve number word words said is =
     let adds = served_lawful word words said.act got.0 in
     (adds.0, (got.1, adds.1))
 
-words_fit : (mode : Mode) (number : ℕ) (words : List (List ℕ)) (said : Said) → words_say mode words ≡ Ok (Some said) → Fits mode (numbered number said)
+words_fit : (mode : Mode) (number : ℕ) (words : List (List ℕ)) (said : Said) → words_by (said_of mode) words ≡ Ok (Some said) → Fits mode (numbered number said)
 words_fit mode number [] said is = absurd (cc)
 words_fit mode number (word ∷ operands) said is =
     let got = step_ok (said_of mode word operands) (λ one. Ok (Some one)) (Some said) is in
@@ -168,7 +168,7 @@ words_fit mode number (word ∷ operands) said is =
 
 text_fits : (mode : Mode) (number : ℕ) (text : List ℕ) (said : Said) → line_says mode text ≡ Ok (Some said) → Fits mode (numbered number said)
 text_fits mode number text said is = go (starts_with eqb text (codes "#")) is where
-  go : (t : Bool) → cond {A = Result (Option Said) ℕ} t (Ok None) (words_say mode (words_of text)) ≡ Ok (Some said) → Fits mode (numbered number said)
+  go : (t : Bool) → cond {A = Result (Option Said) ℕ} t (Ok None) (words_by (said_of mode) (words_of text)) ≡ Ok (Some said) → Fits mode (numbered number said)
   go true so = absurd (cc)
   go false so = words_fit mode number (words_of text) said so
 

@@ -5,7 +5,7 @@ use Rattle.osc_script.specs.declared.line.Line.{Line}
 use Rattle.osc_script.specs.declared.mode.Mode.{Mode}
 use Rattle.osc_script.specs.declared.fault.ScriptFault.{ScriptFault}
 use Rattle.osc_script.specs.Words.{lines_of}
-use Rattle.osc_script.specs.Scripts.{line_of, onto, script_from}
+use Rattle.osc_script.specs.Scripts.{line_from, line_says, onto, script_from}
 
 -- what is read, after what was read before
 abbrev pub behind : List Line → Result (List Line) ScriptFault → Result (List Line) ScriptFault
@@ -20,7 +20,7 @@ behind_step lines (Some line) (Err fault) = refl
 
 -- a line that is read is after those before it, and the rest is read on
 pub line_read : (mode : Mode) (number : ℕ) (bytes text rest : List ℕ) (lines new : List Line) (said : Option Line) → lines_of bytes ≡ text ∷ lines_of rest
-    → line_of mode number text ≡ Ok said → new ≡ lines ++ option_to_list said
+    → line_from number (line_says mode text) ≡ Ok said → new ≡ lines ++ option_to_list said
     → behind new (script_from mode (number + 1) (lines_of rest)) ≡ behind lines (script_from mode number (lines_of bytes))
 line_read mode number bytes text rest lines new said cut is added =
     let others = script_from mode (number + 1) (lines_of rest) in
@@ -29,7 +29,7 @@ line_read mode number bytes text rest lines new said cut is added =
     ∙ ap (λ (texts : List (List ℕ)). behind lines (script_from mode number texts)) (sym cut)
 
 pub line_refused : (mode : Mode) (number : ℕ) (bytes text rest : List ℕ) (lines : List Line) (fault : ScriptFault) → lines_of bytes ≡ text ∷ lines_of rest
-    → line_of mode number text ≡ Err fault → behind lines (script_from mode number (lines_of bytes)) ≡ Err fault
+    → line_from number (line_says mode text) ≡ Err fault → behind lines (script_from mode number (lines_of bytes)) ≡ Err fault
 line_refused mode number bytes text rest lines fault cut is =
     let others = script_from mode (number + 1) (lines_of rest) in
     ap (λ (texts : List (List ℕ)). behind lines (script_from mode number texts)) cut

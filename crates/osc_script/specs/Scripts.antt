@@ -25,23 +25,16 @@ abbrev pub in_lane : ℕ → List (List ℕ) → Result Said ℕ
 in_lane lane [] = Err count_kind
 in_lane lane (word ∷ operands) = on_lane lane (act_of word operands)
 
--- what a first word and the words after it say; in mode Lanes the first word is the lane's number
+-- what a first word and the words after it say where there are no lanes
+abbrev pub plain_says : List ℕ → List (List ℕ) → Result Said ℕ
+plain_says word operands = on_lane 0 (act_of word operands)
+
+-- what they say in a mode; in mode Lanes the first word is the lane's number
 abbrev pub said_of : Mode → List ℕ → List (List ℕ) → Result Said ℕ
-said_of Plain word operands = on_lane 0 (act_of word operands)
+said_of Plain word operands = plain_says word operands
 said_of Lanes word operands =
     and_then (ok_or (lane_of word) lane_kind) (λ lane. in_lane lane operands)
 said_of Serve word operands = on_lane 0 (served_of word operands)
-
--- what words say; none say nothing
-abbrev pub words_say : Mode → List (List ℕ) → Result (Option Said) ℕ
-words_say mode [] = Ok None
-words_say mode (word ∷ operands) =
-    and_then (said_of mode word operands) (λ said. Ok (Some said))
-
--- what a line says: an act, nothing where it is skipped, or the kind of its fault
-abbrev pub line_says : Mode → List ℕ → Result (Option Said) ℕ
-line_says mode text =
-    if starts_with nat_eq text (codes "#") then Ok None else words_say mode (words_of text)
 
 -- what a line says with its number
 abbrev pub line_from : ℕ → Result (Option Said) ℕ → Result (Option Line) ScriptFault
@@ -49,9 +42,6 @@ line_from number (Ok None) = Ok None
 line_from number (Ok (Some said)) =
     Ok (Some (record { number = number; lane = said.lane; act = said.act }))
 line_from number (Err kind) = Err (record { line = number; kind = kind })
-
-abbrev pub line_of : Mode → ℕ → List ℕ → Result (Option Line) ScriptFault
-line_of mode number text = line_from number (line_says mode text)
 
 -- a line before others: nothing of one that is skipped, and a fault decides alone
 abbrev pub onto : Result (Option Line) ScriptFault → Result (List Line) ScriptFault
@@ -61,17 +51,44 @@ onto (Ok None) others = others
 onto (Ok (Some line)) (Err fault) = Err fault
 onto (Ok (Some line)) (Ok lines) = Ok (line ∷ lines)
 
--- the lines, counted from a number on
-abbrev pub script_from : Mode → ℕ → List (List ℕ) → Result (List Line) ScriptFault
-script_from mode number [] = Ok []
-script_from mode number (text ∷ texts) =
-    onto (line_of mode number text) (script_from mode (number + 1) texts)
+-- by what a first word and the words after it say
+module _ (says : List ℕ → List (List ℕ) → Result Said ℕ) where
+  -- what words say; none say nothing
+  abbrev pub words_by : List (List ℕ) → Result (Option Said) ℕ
+  words_by [] = Ok None
+  words_by (word ∷ operands) = and_then (says word operands) (λ said. Ok (Some said))
 
--- an input that is too long is a fault in no line
+  -- what a line says: an act, nothing where it is skipped, or the kind of its fault
+  abbrev pub line_by : List ℕ → Result (Option Said) ℕ
+  line_by text = if starts_with nat_eq text (codes "#") then Ok None else words_by (words_of text)
+
+  -- the lines, counted from a number on
+  abbrev pub lines_by : ℕ → List (List ℕ) → Result (List Line) ScriptFault
+  lines_by number [] = Ok []
+  lines_by number (text ∷ texts) =
+      onto (line_from number (line_by text)) (lines_by (number + 1) texts)
+
+  -- an input that is too long is a fault in no line
+  abbrev pub script_by : List ℕ → Result (List Line) ScriptFault
+  script_by bytes =
+      if nat_lt MAX_SCRIPT (length bytes) then Err (record { line = 0; kind = too_long_kind })
+      else lines_by 1 (lines_of bytes)
+
+-- the lines of a script without lanes, or its first fault
+abbrev pub plain_script : List ℕ → Result (List Line) ScriptFault
+plain_script bytes = script_by plain_says bytes
+
+-- those of a script in a mode
 abbrev pub script_of : Mode → List ℕ → Result (List Line) ScriptFault
-script_of mode bytes =
-    if nat_lt MAX_SCRIPT (length bytes) then Err (record { line = 0; kind = too_long_kind })
-    else script_from mode 1 (lines_of bytes)
+script_of mode bytes = script_by (said_of mode) bytes
+
+-- some of them, counted from a number on
+abbrev pub script_from : Mode → ℕ → List (List ℕ) → Result (List Line) ScriptFault
+script_from mode number texts = lines_by (said_of mode) number texts
+
+-- what one line says in a mode
+abbrev pub line_says : Mode → List ℕ → Result (Option Said) ℕ
+line_says mode text = line_by (said_of mode) text
 
 -- each line's act is lawful
 abbrev pub AreLawful : List Line → Type 0

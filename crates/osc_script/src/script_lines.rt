@@ -2,7 +2,7 @@
 ghost use Rattle.osc_script.specs.declared.script.TheConstants.{MAX_SCRIPT};
 ghost use Rattle.std.specs.Prelude.{◌≡◌, ◌≤◌, length, IfOk, Ok, Some};
 ghost use Rattle.osc_script.specs.Words.{lines_of};
-ghost use Rattle.osc_script.specs.Scripts.{script_from, line_of, AreLawful, AreOf};
+ghost use Rattle.osc_script.specs.Scripts.{script_from, line_from, line_says, AreLawful, AreOf};
 ghost use Rattle.osc_script.specs.Answers.{Reads, AddsLine};
 
 use crate::fault::{LineRefusal, ScriptFault, ScriptRefusal};
@@ -43,7 +43,8 @@ fn push_line(
     text: &[u8],
     lines: &mut Vec<Line>,
 ) -> Result<(), ScriptRefusal>
-    ensures { AddsLine result (line_of mode number text.now) lines.old.items lines.new.items }
+    ensures { AddsLine result (line_from number (line_says mode text.now)) lines.old.items
+        lines.new.items }
 {
     match read_line(alloc, mode, text) {
         Ok(Some(Said { lane, act })) => match lines.push(Line { number, lane, act }) {
