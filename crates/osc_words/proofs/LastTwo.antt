@@ -8,9 +8,9 @@ use Rattle.std.proofs.lemmas.Slice.Eq.{bytes_eq-Decides}
 use Rattle.clap.specs.Words.{Row, first_of}
 use Rattle.osc_words.specs.Names.{before_last_two, last_two}
 use Rattle.osc_words.specs.Reading.{are_options, found_by}
-use Rattle.osc_words.specs.Commands.{EndsInFiles, are_last_two, caps_of, command_of, first_verb, gen_from, is_found, number_of, resume_command_of, resume_in}
+use Rattle.osc_words.specs.Commands.{EndsInFiles, are_last_two, caps_of, command_of, first_verb, gen_of, is_found, number_of, plain_by, resume_command_of, resume_in}
 use Rattle.osc_words.specs.Commands.{said_by, said_in, serve_from, stands_in_place, transport_of}
-use Rattle.osc_words.specs.declared.options.Quantity.TheVariants.{Seed, Lines, Port, Links, Count, Idle}
+use Rattle.osc_words.specs.declared.options.Quantity.TheVariants.{Port, Links, Count, Idle}
 use Rattle.osc_words.specs.declared.verb.Verb.{Verb}
 use Rattle.osc_words.specs.declared.verb.Verb.TheVariants.{Run, Replay, Dump, Upgrade, Score, Gen, Lanes, Serve, Resume}
 use Rattle.osc_words.specs.declared.command.TheConstants.{PORTS}
@@ -18,7 +18,8 @@ use Rattle.osc_words.specs.declared.command.Capacities.{Capacities}
 use Rattle.osc_words.specs.declared.command.Transport.{Transport}
 use Rattle.osc_words.specs.declared.command.ResumeCommand.{ResumeCommand}
 use Rattle.osc_words.specs.declared.command.Command.{Command}
-use Rattle.osc_words.specs.declared.command.Command.TheVariants.{Live}
+use Rattle.osc_words.specs.declared.command.Command.TheVariants.{Live, Plain}
+use Rattle.osc_words.specs.declared.command.PlainCommand.{PlainCommand}
 use Rattle.osc_words.specs.declared.command.LiveCommand.{LiveCommand}
 use Rattle.osc_words.specs.declared.command.LiveCommand.TheVariants as live
 
@@ -27,10 +28,9 @@ no_caps : (f : Capacities → Command) (caps : Option Capacities) (command : Res
 no_caps f None command other is = cc
 no_caps f (Some caps) command other is = cc (sym (other caps) ∙ is)
 
-no_gen : (a b : Option ℕ) (command : ResumeCommand) → option_and_then resume_in (gen_from a b) ≡ Some command → ⊥
-no_gen None b command is = cc
-no_gen (Some a) None command is = cc
-no_gen (Some a) (Some b) command is = cc
+no_plain : (plain : Option PlainCommand) (command : ResumeCommand) → option_and_then resume_in (option_map Plain plain) ≡ Some command → ⊥
+no_plain None command is = cc
+no_plain (Some plain) command is = cc
 
 no_live : (t : Bool) (said : LiveCommand) (command : ResumeCommand) → option_and_then resume_in (cond t (Some (Live said)) None) ≡ Some command → ⊥
 no_live true said command is = cc
@@ -73,12 +73,12 @@ files_stand words rows found stands = go (last_two words) refl parts.0 where
 
 by_verb : (words : List (List ℕ)) (verb : Verb) (rows : List Row) (command : ResumeCommand) → found_by verb words ≡ Some rows
     → option_and_then resume_in (said_in words verb rows) ≡ Some command → EndsInFiles words
-by_verb words Run rows command found is = absurd (no_caps _ (caps_of rows) command (λ c. refl) is)
+by_verb words Run rows command found is = absurd (no_plain (plain_by Run rows) command is)
 by_verb words Replay rows command found is = absurd (cc)
 by_verb words Dump rows command found is = absurd (cc)
 by_verb words Upgrade rows command found is = absurd (cc)
 by_verb words Score rows command found is = absurd (cc)
-by_verb words Gen rows command found is = absurd (no_gen (number_of Seed rows) (number_of Lines rows) command is)
+by_verb words Gen rows command found is = absurd (no_plain (gen_of rows) command is)
 by_verb words Lanes rows command found is = absurd (no_caps _ (caps_of rows) command (λ c. refl) is)
 by_verb words Serve rows command found is = absurd
     (no_serve (transport_of rows) (number_of Port rows) (number_of Links rows) (number_of Count rows) (number_of Idle rows) (caps_of rows) command is)

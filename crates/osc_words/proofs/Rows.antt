@@ -2,15 +2,20 @@
 use Rattle.std.proofs.Common.{◌≡◌, refl, true, false, [], ◌∷◌, Some, None, codes}
 use Rattle.clap.proofs.OnLiterals.{clap_on_literals}
 use Rattle.osc_model.specs.declared.late.Late.TheVariants.{Deliver, Discard}
-use Rattle.osc_words.specs.Commands.{command_of, to_read}
+use Rattle.osc_words.specs.Commands.{command_of}
 use Rattle.osc_words.specs.Reading.{are_options, found_by}
 use Rattle.osc_words.specs.declared.command.Capacities.{Capacities}
 use Rattle.osc_words.specs.declared.command.Output.TheVariants as output
 use Rattle.osc_words.specs.declared.command.Reading.TheVariants.{Run, Replay, Upgrade, Score, PlayScore}
-use Rattle.osc_words.specs.declared.command.PlainCommand.TheVariants.{Gen}
+use Rattle.osc_words.specs.declared.command.Reading.{Reading}
+use Rattle.osc_words.specs.declared.command.PlainCommand.TheVariants.{Read, Gen}
+use Rattle.osc_words.specs.declared.command.Command.{Command}
 use Rattle.osc_words.specs.declared.command.Transport.TheVariants.{Udp, Tcp}
 use Rattle.osc_words.specs.declared.command.LiveCommand.TheVariants.{Lanes, Serve}
 use Rattle.osc_words.specs.declared.command.Command.TheVariants.{Plain, Live, Resume}
+
+abbrev to_read : Reading → Command
+to_read reading = Plain (Read reading)
 
 abbrev defaults : Capacities
 defaults = record { units = 4096; blocks = 16384; methods = 1024; nodes = 4096; recording = 67108864; late = Deliver }

@@ -84,11 +84,11 @@ output_of rows = if is_given Bytes rows then output.Recording else output.Text
 abbrev pub score_of : List Row → Reading
 score_of rows = if is_given Play rows then PlayScore else Score
 
-abbrev pub gen_from : Option ℕ → Option ℕ → Option Command
-gen_from (Some seed) (Some lines) = Some (Plain (Gen seed lines))
+abbrev pub gen_from : Option ℕ → Option ℕ → Option PlainCommand
+gen_from (Some seed) (Some lines) = Some (Gen seed lines)
 gen_from _ _ = None
 
-abbrev pub gen_of : List Row → Option Command
+abbrev pub gen_of : List Row → Option PlainCommand
 gen_of rows = gen_from (number_of Seed rows) (number_of Lines rows)
 
 -- what carries packets to the links
@@ -112,20 +112,22 @@ serve_of rows =
 abbrev pub resume_of : List Row → Option Command
 resume_of rows = option_map (λ room. Resume (record { room = room })) (number_of Recording rows)
 
-abbrev pub to_read : Reading → Command
-to_read reading = Plain (Read reading)
+-- what the first words of `osc` say, by what was found; the others say nothing to it
+abbrev pub plain_by : Verb → List Row → Option PlainCommand
+plain_by verb.Run rows = option_map (λ caps. Read (Run (output_of rows) caps)) (caps_of rows)
+plain_by verb.Replay rows = Some (Read Replay)
+plain_by verb.Dump rows = Some (Read Dump)
+plain_by verb.Upgrade rows = Some (Read Upgrade)
+plain_by verb.Score rows = Some (Read (score_of rows))
+plain_by verb.Gen rows = gen_of rows
+plain_by _ rows = None
 
 abbrev pub said_by : Verb → List Row → Option Command
-said_by verb.Run rows = option_map (λ caps. to_read (Run (output_of rows) caps)) (caps_of rows)
-said_by verb.Replay rows = Some (to_read Replay)
-said_by verb.Dump rows = Some (to_read Dump)
-said_by verb.Upgrade rows = Some (to_read Upgrade)
-said_by verb.Score rows = Some (to_read (score_of rows))
-said_by verb.Gen rows = gen_of rows
 said_by verb.Lanes rows =
     option_map (λ caps. Live (Lanes caps (is_given Watch rows))) (caps_of rows)
 said_by verb.Serve rows = serve_of rows
 said_by verb.Resume rows = resume_of rows
+said_by other rows = option_map Plain (plain_by other rows)
 
 -- the first word chooses the command
 abbrev pub first_verb : List (List ℕ) → Option Verb
@@ -160,10 +162,6 @@ command_of words =
     option_and_then (λ verb. option_and_then (said_in words verb) (found_by verb words))
     (first_verb words)
 
-abbrev pub plain_in : Command → Option PlainCommand
-plain_in (Plain command) = Some command
-plain_in _ = None
-
 abbrev pub live_in : Command → Option LiveCommand
 live_in (Live command) = Some command
 live_in _ = None
@@ -173,8 +171,10 @@ resume_in (Resume command) = Some command
 resume_in _ = None
 
 -- the command of `osc` that the words say
-abbrev pub plain_command_of : List (List ℕ) → Option PlainCommand
-plain_command_of words = option_and_then plain_in (command_of words)
+unfoldable pub plain_command_of : List (List ℕ) → Option PlainCommand
+plain_command_of words =
+    option_and_then (λ verb. option_and_then (plain_by verb) (found_by verb words))
+    (first_verb words)
 
 abbrev pub reading_in : PlainCommand → Option Reading
 reading_in (Read reading) = Some reading

@@ -3,8 +3,8 @@ ghost use Rattle.std.specs.Prelude.{◌≡◌, IfOk, IfSome, map, option_map, st
 ghost use Rattle.clap.specs.Words.{first_of, found_of, rows_of};
 ghost use Rattle.osc_words.specs.Options.{IsInRange};
 ghost use Rattle.osc_words.specs.Commands as commands;
-ghost use Rattle.osc_words.specs.Commands.{caps_of, gen_of, is_given, number_of, said_by, serve_of};
-ghost use Rattle.osc_words.specs.Commands.{resume_of};
+ghost use Rattle.osc_words.specs.Commands.{caps_of, gen_of, is_given, number_of, plain_by, said_by};
+ghost use Rattle.osc_words.specs.Commands.{resume_of, serve_of};
 ghost use Rattle.osc_words.specs.Ranges.{AreInRange, IsLawful, IsLawfulPlain, IsLawfulLive};
 ghost use Rattle.osc_words.specs.Ranges.{IsLawfulResume};
 
@@ -42,14 +42,18 @@ pub fn command_of(alloc: Global, words: &[String]) -> Result<Option<Command>, Al
 
 /// The command of `osc` that the words say; none where they are refused, or say a command of another program. An `Err`
 /// means out of memory.
+#[tactic(auto, unfolding(crate::specs::Commands::plain_command_of))]
 pub fn plain_command_of(alloc: Global, words: &[String]) -> Result<Option<PlainCommand>, AllocError>
     ensures said { IfOk result
         (λ command. command ≡ commands.plain_command_of (map string_bytes words.now)) }
     ensures lawful { IfOk result (λ command. IfSome command IsLawfulPlain) }
 {
-    match command_of(alloc, words)? {
-        Some(Command::Plain(command)) => Ok(Some(command)),
-        _ => Ok(None),
+    let Some(verb) = verb_of(words) else {
+        return Ok(None);
+    };
+    match read(alloc, verb, words)? {
+        Some(found) => Ok(plain_from(verb, &found)),
+        None => Ok(None),
     }
 }
 
@@ -135,28 +139,33 @@ fn command_from(verb: Verb, found: &ArgMatches<'_>) -> Option<Command>
     ensures lawful { IfSome result IsLawful }
 {
     match verb {
-        Verb::Run => Some(reading(Reading::Run {
-            output: output_in(found),
-            caps: caps_in(found)?,
-        })),
-        Verb::Replay => Some(reading(Reading::Replay)),
-        Verb::Dump => Some(reading(Reading::Dump)),
-        Verb::Upgrade => Some(reading(Reading::Upgrade)),
-        Verb::Score => Some(reading(score_in(found))),
-        Verb::Gen => gen_in(found),
         Verb::Lanes => Some(Command::Live(LiveCommand::Lanes {
             caps: caps_in(found)?,
             watch: flag(found, Flag::Watch),
         })),
         Verb::Serve => serve_in(found),
         Verb::Resume => resume_in(found),
+        _ => Some(Command::Plain(plain_from(verb, found)?)),
     }
 }
 
-fn reading(reading: Reading) -> Command
-    ensures { result ≡ commands.to_read reading }
+/// What the first words of `osc` say; the others say nothing to it.
+fn plain_from(verb: Verb, found: &ArgMatches<'_>) -> Option<PlainCommand>
+    ensures said { result ≡ plain_by verb (rows_of (found_of found.now)) }
+    ensures lawful { IfSome result IsLawfulPlain }
 {
-    Command::Plain(PlainCommand::Read(reading))
+    match verb {
+        Verb::Run => Some(PlainCommand::Read(Reading::Run {
+            output: output_in(found),
+            caps: caps_in(found)?,
+        })),
+        Verb::Replay => Some(PlainCommand::Read(Reading::Replay)),
+        Verb::Dump => Some(PlainCommand::Read(Reading::Dump)),
+        Verb::Upgrade => Some(PlainCommand::Read(Reading::Upgrade)),
+        Verb::Score => Some(PlainCommand::Read(score_in(found))),
+        Verb::Gen => gen_in(found),
+        Verb::Lanes | Verb::Serve | Verb::Resume => None,
+    }
 }
 
 fn output_in(found: &ArgMatches<'_>) -> Output
@@ -193,14 +202,14 @@ fn caps_in(found: &ArgMatches<'_>) -> Option<Capacities>
     })
 }
 
-fn gen_in(found: &ArgMatches<'_>) -> Option<Command>
+fn gen_in(found: &ArgMatches<'_>) -> Option<PlainCommand>
     ensures said { result ≡ gen_of (rows_of (found_of found.now)) }
-    ensures lawful { IfSome result IsLawful }
+    ensures lawful { IfSome result IsLawfulPlain }
 {
-    Some(Command::Plain(PlainCommand::Gen {
+    Some(PlainCommand::Gen {
         seed: number(found, Quantity::Seed)?,
         lines: number(found, Quantity::Lines)? as u32,
-    }))
+    })
 }
 
 fn serve_in(found: &ArgMatches<'_>) -> Option<Command>
