@@ -16,7 +16,7 @@ use Rattle.osc_record.specs.Reading.{IsRecord}
 use Rattle.osc_replay.specs.Disagreeing.{IsRecordingOf}
 use Rattle.osc_script.specs.declared.act.Act.{Act}
 use Rattle.osc_script.specs.Written.{written}
-use Rattle.osc_score.specs.Scripted.{adds}
+use Rattle.osc_score.proofs.Acts.{adds}
 use Rattle.std.specs.Prelude.{Result, Ok, Err, IfOk}
 use Rattle.osc_story.specs.Standings.{Handed, Standing, Shows, queue_of, standing_after}
 use Rattle.osc_alike.specs.Alike.{address_of}

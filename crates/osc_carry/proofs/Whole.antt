@@ -18,7 +18,7 @@ use Rattle.osc_script.specs.declared.act.Act.{Act}
 use Rattle.osc_script.specs.declared.act.Act.TheVariants.{Send, Tick}
 use Rattle.osc_player.specs.Plain.{plain, fault_at}
 use Rattle.osc_score.specs.Scores.{methods_from}
-use Rattle.osc_score.specs.Scripted.{adds}
+use Rattle.osc_score.proofs.Acts.{adds}
 use Rattle.osc_score_laws.proofs.Lists.{all_on}
 use Rattle.osc_score_laws.proofs.Playing.{IsFaultless, history_from, plain_is}
 use Rattle.osc_score_laws.proofs.Plays.{Plays, plays_on}

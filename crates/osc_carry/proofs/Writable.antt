@@ -14,7 +14,7 @@ use Rattle.osc_model.specs.State.{State, Queued}
 use Rattle.osc_script.specs.declared.act.Act.{Act}
 use Rattle.osc_script.specs.declared.act.Act.TheVariants.{Send, Tick}
 use Rattle.osc_script.specs.Written.{IsWritable}
-use Rattle.osc_score.specs.Scripted.{adds}
+use Rattle.osc_score.proofs.Acts.{adds}
 use Rattle.osc_score_laws.proofs.Lists.{all_on}
 use Rattle.osc_alike.specs.Alike.{address_of}
 use Rattle.osc_carry.specs.Carried.{packet_with, packet_of, ticks_to, queue_acts, carried_acts}

@@ -10,11 +10,10 @@ use Rattle.osc_model.specs.State.{State, Queued, opening}
 use Rattle.osc_model.specs.Events.{Entry}
 use Rattle.osc_model.specs.History.{after}
 use Rattle.osc_script.specs.declared.act.Act.{Act}
-use Rattle.osc_script.specs.declared.act.Act.TheVariants.{Send, Tick}
+use Rattle.osc_script.specs.declared.act.Act.TheVariants.{Add, Send, Tick}
 use Rattle.osc_script.specs.declared.line.Line.{Line}
 use Rattle.osc_script.specs.Written.{numbered, written}
 use Rattle.osc_score.specs.Scores.{methods_from}
-use Rattle.osc_score.specs.Scripted.{adds}
 use Rattle.osc_alike.specs.Alike.{address_of}
 
 -- the packet of a tag and messages: one message of tag 1 alone, and else the bundle of them
@@ -48,7 +47,7 @@ queue_acts now clock (unit ∷ units) =
 -- what brings a new server to a state: methods are added at the addresses in their order, and then
 -- the units are sent
 abbrev pub carried_from : List (List ℕ) → ℕ → List Queued → List Act
-carried_from addresses clock units = adds addresses ++ queue_acts 1 clock units
+carried_from addresses clock units = map Add addresses ++ queue_acts 1 clock units
 
 abbrev pub carried_acts : State → List Act
 carried_acts state = carried_from (map address_of state.methods) state.clock state.queue

@@ -9,7 +9,7 @@ ghost use Rattle.osc_model.specs.History.{after};
 ghost use Rattle.osc_replay.specs.Disagreeing.{IsRecordingOf, DisagreesAt};
 ghost use Rattle.osc_replay.specs.Formed.{IsUnformedAt};
 ghost use Rattle.osc_script.specs.Written.{written};
-ghost use Rattle.osc_score.specs.Scripted.{adds};
+ghost use Rattle.osc_script.specs.declared.act.Act.TheVariants.{Add};
 ghost use Rattle.osc_story.specs.Standings.{queue_of};
 ghost use Rattle.osc_alike.specs.Alike.{address_of};
 ghost use Rattle.osc_carry.specs.declared.fault.CarryFault.TheVariants as fault;
@@ -74,7 +74,7 @@ fn script_of(alloc: Global, story: &Story) -> Result<Vec<u8>, CarryFault>
 /// Adds an `add` for each method, in the order of adding.
 fn put_adds(script: &mut Vec<u8>, methods: &[Registered]) -> Result<(), AllocError>
     ensures { OnOk result
-        (script.new.items ≡ script.old.items ++ written (adds (map address_of methods.now))) }
+        (script.new.items ≡ script.old.items ++ written (map Add (map address_of methods.now))) }
 {
     for method in methods {
         put_line(script, b"add", method.address())?;

@@ -8,7 +8,8 @@ use Rattle.osc_script.specs.declared.act.Act.TheVariants.{Send, Tick, Pump}
 use Rattle.osc_script.specs.Written.{act_line, written}
 use Rattle.osc_score.specs.declared.run.Run.{Run}
 use Rattle.osc_score.specs.Scores.{Note, Group, groups_of, bundle_text, addresses_of}
-use Rattle.osc_score.specs.Scripted.{adds, sends, ticks, batch, batches, score_script}
+use Rattle.osc_score.specs.Scripted.{batch, batches, score_script}
+use Rattle.osc_score.proofs.Acts.{adds, sends, ticks}
 use Rattle.osc_score.specs.Plans.{run_of, plan_of, run_sends, run_ticks, run_batch, run_batches, plan_script}
 
 none_taken : (n : ℕ) → take {A = Run} n [] ≡ []

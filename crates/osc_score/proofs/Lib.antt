@@ -13,3 +13,4 @@ pub mod Putting
 pub mod Messages
 pub mod Going
 pub mod Firsts
+pub mod Acts

@@ -2,11 +2,10 @@
 use Rattle.osc_score.specs.declared.limits.TheConstants.{BATCH_SIZE}
 use Rattle.std.specs.Prelude.{ℕ, zero, suc, List, [], ◌∷◌, ◌++◌, length, map, take, drop}
 use Rattle.osc_script.specs.declared.act.Act.{Act}
-use Rattle.osc_script.specs.declared.act.Act.TheVariants.{Send, Tick, Pump}
+use Rattle.osc_script.specs.declared.act.Act.TheVariants.{Add, Send, Tick, Pump}
 use Rattle.osc_script.specs.Written.{written}
 use Rattle.osc_score.specs.declared.run.Run.{Run}
 use Rattle.osc_score.specs.Scores.{Note, Group, groups_of, bundle_text, addresses_of}
-use Rattle.osc_score.specs.Scripted.{adds}
 
 -- the distinct addresses in the order of their first use, and the runs
 pub record Plan : Type 0 where
@@ -39,7 +38,7 @@ run_batches (suc count) runs =
 
 -- the acts that play what is kept
 abbrev pub plan_acts : Plan → List Act
-plan_acts plan = adds plan.addresses ++ run_batches (length plan.runs) plan.runs
+plan_acts plan = map Add plan.addresses ++ run_batches (length plan.runs) plan.runs
 
 -- the script that plays it
 abbrev pub plan_script : Plan → List ℕ

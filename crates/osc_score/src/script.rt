@@ -1,7 +1,7 @@
 // Writes the script that plays a score.
-ghost use Rattle.std.specs.Prelude.{◌≡◌, ◌++◌, ◌≤◌, length, OnOk};
+ghost use Rattle.std.specs.Prelude.{◌≡◌, ◌++◌, ◌≤◌, length, map, OnOk};
 ghost use Rattle.osc_script.specs.Written.{written};
-ghost use Rattle.osc_score.specs.Scripted.{adds};
+ghost use Rattle.osc_script.specs.declared.act.Act.TheVariants.{Add};
 ghost use Rattle.osc_score.specs.Plans.{run_sends, run_ticks, run_batch, run_batches};
 
 use crate::limits::BATCH_SIZE;
@@ -12,7 +12,7 @@ use std::alloc::{AllocError, Global};
 
 /// Adds an `add` for each address.
 pub(crate) fn put_adds(script: &mut Vec<u8>, addresses: &[Address]) -> Result<(), AllocError>
-    ensures { OnOk result (script.new.items ≡ script.old.items ++ written (adds addresses.now)) }
+    ensures { OnOk result (script.new.items ≡ script.old.items ++ written (map Add addresses.now)) }
 {
     for address in addresses {
         put_line(script, b"add", address.bytes())?;

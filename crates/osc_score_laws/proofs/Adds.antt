@@ -16,7 +16,7 @@ use Rattle.osc_model.specs.Step.{step, add_at}
 use Rattle.osc_model.proofs.Stepping.{noted}
 use Rattle.osc_script.specs.declared.act.Act.TheVariants.{Add}
 use Rattle.osc_score.specs.Scores.{methods_from}
-use Rattle.osc_score.specs.Scripted.{adds}
+use Rattle.osc_score.proofs.Acts.{adds}
 use Rattle.osc_score_laws.proofs.Steps.{step_is}
 use Rattle.osc_score_laws.proofs.Plays.{Plays, none_plays, plays_on, one_plays}
 

@@ -8,7 +8,8 @@ use Rattle.osc_model.specs.Limits.{Limits}
 use Rattle.osc_model.specs.State.{State}
 use Rattle.osc_script.specs.declared.act.Act.{Act}
 use Rattle.osc_score.specs.Scores.{Group}
-use Rattle.osc_score.specs.Scripted.{sends, ticks, batch, batches}
+use Rattle.osc_score.specs.Scripted.{batch, batches}
+use Rattle.osc_score.proofs.Acts.{sends, ticks}
 use Rattle.osc_score_laws.specs.Known.{Known}
 use Rattle.osc_score_laws.specs.Heard.{Sound, IsRoomy}
 use Rattle.osc_score_laws.proofs.Lists.{all_front, all_back}

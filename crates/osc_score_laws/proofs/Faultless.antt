@@ -9,7 +9,8 @@ use Rattle.osc_script.specs.Adds.{adds_of, count_adds}
 use Rattle.osc_script.specs.Written.{numbered}
 use Rattle.osc_player.specs.Plain.{fault_at}
 use Rattle.osc_score.specs.Scores.{Note, Group, groups_of, addresses_of, bundle_text, IsScore}
-use Rattle.osc_score.specs.Scripted.{adds, sends, ticks, batch, batches, score_acts}
+use Rattle.osc_score.specs.Scripted.{batch, batches, score_acts}
+use Rattle.osc_score.proofs.Acts.{adds, sends, ticks}
 use Rattle.osc_score_laws.specs.Known.{Known}
 use Rattle.osc_score_laws.proofs.Playing.{IsFaultless}
 use Rattle.osc_score_laws.proofs.Grouped.{groups_run}

@@ -15,7 +15,7 @@ use Rattle.osc_model.specs.History.{after}
 use Rattle.osc_model.proofs.Stepping.{noted}
 use Rattle.osc_script.specs.declared.act.Act.TheVariants.{Tick, Pump}
 use Rattle.osc_score.specs.Scores.{Group}
-use Rattle.osc_score.specs.Scripted.{ticks}
+use Rattle.osc_score.proofs.Acts.{ticks}
 use Rattle.osc_model.specs.Events.{room_in}
 use Rattle.osc_player.specs.Plain.{entry_of, is_released, pumped, pump}
 use Rattle.osc_score_laws.proofs.Playing.{history_from}

@@ -17,7 +17,8 @@ use Rattle.osc_script.specs.declared.act.Act.{Act}
 use Rattle.osc_script.specs.declared.act.Act.TheVariants.{Add, Send, Tick, Pump}
 use Rattle.osc_script.specs.Written.{IsWritable, act_line, written}
 use Rattle.osc_score.specs.Scores.{Note, Group, groups_of, message_of, elements_of, bundle_text, first_uses, addresses_of, IsNote, IsOfBytes, IsScore, score_size}
-use Rattle.osc_score.specs.Scripted.{adds, sends, ticks, batch, batches, score_acts, score_script}
+use Rattle.osc_score.specs.Scripted.{batch, batches, score_acts, score_script}
+use Rattle.osc_score.proofs.Acts.{adds, sends, ticks}
 use Rattle.osc_score_laws.specs.Known.{Known}
 use Rattle.osc_score_laws.proofs.Grouped.{IsRun, groups_run}
 use Rattle.osc_score_laws.proofs.Adds.{adds_size}

@@ -18,7 +18,7 @@ use Rattle.osc_model.specs.Step.{Stepped, step, decided, leaves, waiting, is_kep
 use Rattle.osc_model.proofs.Stepping.{noted}
 use Rattle.osc_script.specs.declared.act.Act.TheVariants.{Send}
 use Rattle.osc_score.specs.Scores.{Group, bundle_text}
-use Rattle.osc_score.specs.Scripted.{sends}
+use Rattle.osc_score.proofs.Acts.{sends}
 use Rattle.osc_player.specs.Plain.{sent, stop_sent}
 use Rattle.osc_score_laws.specs.Known.{Known}
 use Rattle.osc_score_laws.specs.Heard.{IsRoomy}

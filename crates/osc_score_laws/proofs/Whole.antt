@@ -8,7 +8,8 @@ use Rattle.osc_score.specs.declared.limits.TheConstants.{MAX_SCORE}
 use Rattle.osc_script.specs.declared.act.Act.{Act}
 use Rattle.osc_player.specs.Plain.{plain}
 use Rattle.osc_score.specs.Scores.{Note, Group, alone, joined, groups_of, addresses_of, methods_from, IsScore, score_size}
-use Rattle.osc_score.specs.Scripted.{adds, batches, score_acts}
+use Rattle.osc_score.specs.Scripted.{batches, score_acts}
+use Rattle.osc_score.proofs.Acts.{adds}
 use Rattle.osc_score_laws.specs.Known.{Known}
 use Rattle.osc_score.specs.Reading.{score_of, IsScored}
 use Rattle.osc_score_laws.specs.Heard.{score_lines, IsRoomy, PlaysNotes, PlaysScore}

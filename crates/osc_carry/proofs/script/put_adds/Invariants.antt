@@ -1,6 +1,6 @@
 use Rattle.std.proofs.Common.{◌≡◌, ◌++◌, map, drop}
 use Rattle.osc_script.specs.Written.{written}
-use Rattle.osc_score.specs.Scripted.{adds}
+use Rattle.osc_score.proofs.Acts.{adds}
 use Rattle.osc_alike.specs.Alike.{address_of}
 use Rattle.osc_carry.proofs.script.put_adds.Given as goal
 

@@ -1,6 +1,6 @@
 use Rattle.std.proofs.Common.{◌≡◌, ◌++◌, drop}
 use Rattle.osc_script.specs.Written.{written}
-use Rattle.osc_score.specs.Scripted.{adds}
+use Rattle.osc_score.proofs.Acts.{adds}
 use Rattle.osc_score.proofs.script.put_adds.Given as goal
 
 abbrev pub invariant-loop-address : goal.invariant-loop-address
