@@ -1,6 +1,6 @@
 //! The lines that a link shows.
 ghost use Rattle.std.specs.Prelude.{◌≡◌, ◌++◌, [], IsOk, OnOk, None, option_and_then, unwrap_or};
-ghost use Rattle.osc_ends.specs.Sinks.{sink_change, GainsAll};
+ghost use Rattle.osc_ends.specs.Sinks.{change, GainsAll};
 ghost use Rattle.osc_console.specs.Showing.{unshown_text, IsDayOrNone};
 
 use crate::{Agenda, Calendar, View};
@@ -51,7 +51,7 @@ impl Drop for Lines<'_> {
 
 impl<'a> Lines<'a> {
     ghost use Rattle.std.specs.Prelude.{◌≡◌, ◌↔◌, [], IsTrue, OnOk, None};
-    ghost use Rattle.osc_ends.specs.Sinks.{sink_change};
+    ghost use Rattle.osc_ends.specs.Sinks.{change};
     ghost use Rattle.osc_console.specs.Showing.{AddsCame, after_came, MakesLines, Shows, PutsTogether};
     ghost use Rattle.osc_console.specs.Agenda.{first_tag};
 
@@ -90,7 +90,7 @@ impl<'a> Lines<'a> {
             → out.new ≡ out.old }
         ensures shows { self.new.unshown ≡ 0 → Shows self.old.view.look self.old.view.late
             self.old.view.routes.now came.entry round self.old.agenda.waiters.items
-            self.new.agenda.waiters.items (sink_change O.held O.faults out.old out.new) }
+            self.new.agenda.waiters.items (change O.Sink out.old out.new) }
     {
         if self.has_nothing(came) {
             return;
@@ -226,7 +226,7 @@ fn unshown_after<O: Sink>(
     unshown: u32,
 ) -> u32
     ensures { result ≡ 0 → IsOk made
-        × GainsAll (sink_change O.held O.faults out.old out.new) page.now }
+        × GainsAll (change O.Sink out.old out.new) page.now }
 {
     match made {
         Ok(()) if write_text(DONE, page, out) == DONE => 0,

@@ -1,5 +1,5 @@
 //! Writes what comes out of rings.
-ghost use Rattle.osc_ends.specs.Sinks.{sink_change};
+ghost use Rattle.osc_ends.specs.Sinks.{change};
 ghost use Rattle.osc_console.specs.Printing.{Prints, PrintsRing};
 
 use osc_edge::Sink;
@@ -65,7 +65,7 @@ pub fn print_while<W: Wait, O: Sink, D: Chore>(
     out: &mut O,
     chore: &mut D,
 ) -> bool
-    ensures { Prints rings.old rings.new (sink_change O.held O.faults out.old out.new) result }
+    ensures { Prints rings.old rings.new (change O.Sink out.old out.new) result }
 {
     let mut space = [0; PIECE];
     let mut whole = true;
@@ -84,7 +84,7 @@ pub fn print_while<W: Wait, O: Sink, D: Chore>(
 
 /// Writes what is in each ring, or the first of it.
 fn print_rings<O: Sink>(rings: &mut [Consumer<u8, Global>], space: &mut [u8], out: &mut O) -> bool
-    ensures { Prints rings.old rings.new (sink_change O.held O.faults out.old out.new) result }
+    ensures { Prints rings.old rings.new (change O.Sink out.old out.new) result }
 {
     let mut whole = true;
     for ring in rings.iter_mut() {
@@ -95,7 +95,7 @@ fn print_rings<O: Sink>(rings: &mut [Consumer<u8, Global>], space: &mut [u8], ou
 }
 
 fn print_ring<O: Sink>(ring: &mut Consumer<u8, Global>, space: &mut [u8], out: &mut O) -> bool
-    ensures { PrintsRing ring.old ring.new (sink_change O.held O.faults out.old out.new) result }
+    ensures { PrintsRing ring.old ring.new (change O.Sink out.old out.new) result }
 {
     let mut whole = true;
     for _ in 0..PIECES {
@@ -114,7 +114,7 @@ fn print_piece<O: Sink>(
     space: &mut [u8],
     out: &mut O,
 ) -> (usize, bool)
-    ensures { PrintsRing ring.old ring.new (sink_change O.held O.faults out.old out.new) result.1 }
+    ensures { PrintsRing ring.old ring.new (change O.Sink out.old out.new) result.1 }
 {
     let count = ring.pop_partial_slice(space);
     (count, write_text(DONE, &space[..count], out) == DONE)

@@ -76,7 +76,7 @@ impl<'a, L: Link + Sender + Drop, C: Clock + Drop, O: Sink + Drop, W: Wait> Show
 > {
     ghost use Rattle.osc_edge.specs.declared.limits.TheConstants.{MAX_DATAGRAM};
     ghost use Rattle.std.specs.Prelude.{◌≡◌, ◌≤◌, [], length, Some, None, IfOk};
-    ghost use Rattle.osc_ends.specs.Sinks.{sink_change};
+    ghost use Rattle.osc_ends.specs.Sinks.{change};
     ghost use Rattle.osc_console.specs.Links.{waiting, ShowsPending};
 
     /// Reserves the room of a datagram. An `Err` means out of memory.
@@ -129,8 +129,7 @@ impl<'a, L: Link + Sender + Drop, C: Clock + Drop, O: Sink + Drop, W: Wait> Show
             → self.new.out ≡ self.old.out }
         ensures shows { self.new.lines.unshown ≡ 0 → ShowsPending self.old.lines.view
             (waiting self.old.pending self.old.space.items) self.old.lines.agenda.waiters.items
-            self.new.lines.agenda.waiters.items
-            (sink_change O.held O.faults self.old.out self.new.out) }
+            self.new.lines.agenda.waiters.items (change O.Sink self.old.out self.new.out) }
     {
         let round = self.watch.rounds.handed();
         let came = came_of(self.pending.take(), &self.space, self.watch.slot);
@@ -234,7 +233,7 @@ impl<'a, L: Link + Sender + Drop, C: Clock + Drop, O: Sink + Drop, W: Wait> Link
     ghost use Rattle.osc_edge.specs.Link.{IsGotWithin, TakesTurn, HasLinkCause, HasQuietCause};
     ghost use Rattle.osc_edge.specs.declared.limits.TheConstants.{MAX_DATAGRAM};
     ghost use Rattle.std.specs.Prelude.{◌≡◌, [], None, length};
-    ghost use Rattle.osc_ends.specs.Sinks.{sink_change};
+    ghost use Rattle.osc_ends.specs.Sinks.{change};
     ghost use Rattle.osc_console.specs.Links.{waiting, Keeps, ShowsPending};
 
     ghost left = { λ s. L.left s.link };
@@ -254,8 +253,7 @@ impl<'a, L: Link + Sender + Drop, C: Clock + Drop, O: Sink + Drop, W: Wait> Link
             → self.new.out ≡ self.old.out }
         ensures shows { self.new.lines.unshown ≡ 0 → ShowsPending self.old.lines.view
             (waiting self.old.pending self.old.space.items) self.old.lines.agenda.waiters.items
-            self.new.lines.agenda.waiters.items
-            (sink_change O.held O.faults self.old.out self.new.out) }
+            self.new.lines.agenda.waiters.items (change O.Sink self.old.out self.new.out) }
         ensures keeps { Keeps result (waiting self.new.pending self.new.space.items) into.new }
     {
         self.finish();

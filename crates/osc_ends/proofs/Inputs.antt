@@ -4,7 +4,7 @@ use Rattle.std.proofs.Common.{subst, arith}
 use Rattle.std.specs.Prelude.{IfErr}
 use Rattle.std.proofs.lemmas.List.{length-replicate}
 use Rattle.osc_ends.specs.Ends.{left_behind}
-use Rattle.osc_ends.specs.Inputs.{OfInput, ReadsInput, RefusesInput, read_status}
+use Rattle.osc_ends.specs.Inputs.{OfInput, ReadsInput, RefusesInput, SourceOf, read_status}
 use Rattle.osc_ends.proofs.Transfers.{left_whole}
 
 -- the input was read to its end
@@ -44,12 +44,13 @@ if_any None P holds = tt
 if_any (Some all) P holds = holds all
 
 -- a source that was read to its end didn't fail
-pub reads_whole : (most status : ℕ) (left after : Option (List ℕ)) (bytes : List ℕ) (faults later : ℕ) → (status ≡ 4 → ⊥)
-    → IfSome left (λ all. (bytes ≡ all) × (after ≡ Some [])) → length bytes ≤ most → later ≡ faults → ReadsInput most status left after faults later
-reads_whole most status left after bytes faults later sound whole few same = record {
+pub reads_whole : {S : Type 0} (source_of : SourceOf S) (most status : ℕ) (before after : S) (bytes : List ℕ) → (status ≡ 4 → ⊥)
+    → IfSome (source_of.left before) (λ all. (bytes ≡ all) × (source_of.left after ≡ Some [])) → length bytes ≤ most
+    → source_of.faults after ≡ source_of.faults before → ReadsInput source_of most status before after
+reads_whole source_of most status before after bytes sound whole few same = record {
   source = λ four. absurd (sound four);
   sound = λ _ _. same;
-  read = left_whole most left after bytes _ _ whole few;
+  read = left_whole most (source_of.left before) (source_of.left after) bytes _ _ whole few;
 }
 
 -- what becomes of its bytes is no failure of it

@@ -61,7 +61,7 @@ read_long most (Some all) mid bytes so long within =
     let size : length bytes ≡ most + 1 = omega arith in
     (omega (arith, so.2), so.0 ∙ ap (λ (n : ℕ). Some (drop n all)) size)
 
--- behind a whole input nothing is left
+-- after a whole input nothing is left
 pub left_whole : (most : ℕ) (left after : Option (List ℕ)) (bytes : List ℕ) (P Q : Type 0) → IfSome left (λ all. (bytes ≡ all) × (after ≡ Some []))
     → length bytes ≤ most → IfSome left (λ all. P → Q → after ≡ Some (left_behind most all))
 left_whole most None after bytes P Q is few = tt

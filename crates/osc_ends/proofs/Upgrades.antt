@@ -7,7 +7,7 @@ use Rattle.osc_replay.specs.declared.upgrade_text.UpgradeFault.TheVariants.{Malf
 use Rattle.osc_replay.specs.Old.{IsOldRecordingOf, OldLegal}
 use Rattle.osc_replay.specs.Upgrading.{DisagreesThere, IsUpgradedUnlessShort, PrintsTheSame, upgraded_text}
 use Rattle.osc_ends.specs.Ends.{EndsText}
-use Rattle.osc_ends.specs.Recordings.{EndsUpgrade, UpgradesTo}
+use Rattle.osc_ends.specs.Recordings.{EndsRecording, RefusesUpgrade, UpgradesTo}
 use Rattle.osc_ends.specs.Sinks.{SinkChange}
 
 module _ (bytes text : List ℕ) where
@@ -30,14 +30,14 @@ module _ (bytes text : List ℕ) where
       }
 
   pub upgrade_ends : (status : ℕ) (shown : List ℕ) (out : SinkChange) → shown ≡ text → UpgradesTo bytes text → EndsText 0 status shown out
-      → EndsUpgrade status bytes out
+      → EndsRecording UpgradesTo RefusesUpgrade status bytes out
   upgrade_ends status shown out same to shown_ends =
       let ends : EndsText 0 status text out = subst (λ (t : List ℕ). EndsText 0 status t out) same shown_ends in
       record {
         known = known_so ends.known;
-        done = λ zero_is. ((text, to, (ends.done zero_is).0), (ends.done zero_is).1);
+        done = λ zero_is. (text, to, ends.done zero_is);
         refused = λ one_is. absurd (not_one ends.known one_is);
-        cut_short = λ five_is. ((text, to, (ends.cut_short five_is).0), (ends.cut_short five_is).1);
+        cut_short = λ five_is. (text, to, ends.cut_short five_is);
       }
     where
       known_so : (status ≡ 0) ⊎ (status ≡ 3) ⊎ (status ≡ 5) → (status ≡ 0) ⊎ (status ≡ 1) ⊎ (status ≡ 3) ⊎ (status ≡ 5)

@@ -10,8 +10,10 @@ use Rattle.osc_ends.specs.declared.status.TheConstants.{DONE, NO_MEMORY, REFUSED
 use Rattle.osc_ends.specs.Ends.{left_behind}
 use Rattle.osc_ends.specs.Printing.{malformed_text, refusal_text, score_fault_text}
 use Rattle.osc_ends.specs.Sinks.{SinkChange, GainsUnless}
+-- The ghost members of a source as one record: a clause under `S: Source` writes it `S.Source`.
+pub use Rattle.osc_edge.specs.declared.source.Source.{Ghosts as SourceOf}
 
--- what holds of the bytes that an input has left, or of some where it doesn't tell them
+-- what holds of the bytes that an input has left, or of some where it doesn't report them
 abbrev pub OfInput : Option (List ℕ) → (List ℕ → Type 0) → Type 0
 OfInput left P = (bytes : List ℕ) × IfSome left (λ all. bytes ≡ all) × P bytes
 
@@ -22,12 +24,14 @@ read_status (Err status) = status
 
 -- By the status: the source failed (4), and its count of faults rose; or it didn't, and it was read
 -- to its end, or to the first byte that is too many. Out of memory (3) promises nothing.
-pub record ReadsInput (most status : ℕ) (left left_after : Option (List ℕ))
-    (faults faults_after : ℕ) : Type 0 where
-  pub source : status ≡ SOURCE_FAILED → Rose faults faults_after
-  pub sound : status ≢ NO_MEMORY → status ≢ SOURCE_FAILED → faults_after ≡ faults
-  pub read : IfSome left (λ all. status ≢ NO_MEMORY → status ≢ SOURCE_FAILED
-      → left_after ≡ Some (left_behind most all))
+pub record ReadsInput {S : Type 0} (source_of : SourceOf S) (most status : ℕ) (before after : S)
+    : Type 0 where
+  pub source : status ≡ SOURCE_FAILED → Rose (source_of.faults before) (source_of.faults after)
+  pub sound : status ≢ NO_MEMORY → status ≢ SOURCE_FAILED
+      → source_of.faults after ≡ source_of.faults before
+  pub read : IfSome (source_of.left before)
+      (λ all. status ≢ NO_MEMORY → status ≢ SOURCE_FAILED
+      → source_of.left after ≡ Some (left_behind most all))
 
 -- No result of an input: refused (1), where its bytes are refused; out of memory (3); or a
 -- source that failed (4).

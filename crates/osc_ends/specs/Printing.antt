@@ -5,21 +5,17 @@ use Rattle.osc_print.specs.Words.{spaced}
 use Rattle.osc_print.specs.Lines.{line}
 use Rattle.osc_print.specs.Entries.{named, named_room}
 use Rattle.osc_model.specs.Limits.{Limits}
-use Rattle.osc_model.specs.Events.{Entry, Room}
+use Rattle.osc_model.specs.Events.{Entry}
 use Rattle.osc_replay.specs.Printed.{printed}
 use Rattle.osc_script.specs.declared.fault.ScriptFault.{ScriptFault}
 use Rattle.osc_score.specs.declared.fault.ScoreFault.{ScoreFault}
 use Rattle.osc_ends.specs.declared.outcome.Outcome.{Outcome}
 use Rattle.osc_ends.specs.declared.outcome.Outcome.TheVariants.{Done, Full, LinkFailed, ClockFailed}
 
--- the line of an entry for which the recording has no room
-abbrev pub full_text : Room → List ℕ
-full_text room = line (named_room (codes "recording-full") room.need room.free)
-
 -- the last line of what was played, where there is one
 abbrev pub last_text : Outcome → List ℕ
 last_text Done = []
-last_text (Full need free) = full_text (record { need = need; free = free })
+last_text (Full need free) = line (named_room (codes "recording-full") need free)
 last_text (LinkFailed link) = line (named (codes "link-fault") link)
 last_text ClockFailed = line (codes "clock-fault")
 

@@ -12,7 +12,7 @@ use Rattle.osc_replay.specs.Disagreeing.{DisagreesAt, IsRecordingOf}
 use Rattle.osc_replay.specs.Old.{IsOldRecordingOf, IsOldUnformedAt, OldLegal}
 use Rattle.osc_replay.specs.Upgrading.{DisagreesThere, PrintsTheSame, upgraded, upgraded_text}
 use Rattle.osc_ends.specs.Printing.{malformed_text, disagrees_text, too_large_text}
-use Rattle.osc_ends.specs.Sinks.{SinkChange, Fails, IsSteady, Gains, GainsFront, GainsUnless}
+use Rattle.osc_ends.specs.Sinks.{SinkChange, GainsAll, GainsPart, GainsUnless}
 
 -- The lines on bytes that are no well-formed recording: there are too many, or else the first place
 -- where they are malformed.
@@ -46,15 +46,9 @@ pub record ReplaysTo (bytes printed_text : List ℕ) : Type 0 where
 pub record EndsRecording (Writes Refuses : List ℕ → List ℕ → Type 0) (status : ℕ)
     (bytes : List ℕ) (out : SinkChange) : Type 0 where
   pub known : (status ≡ DONE) ⊎ (status ≡ REFUSED) ⊎ (status ≡ NO_MEMORY) ⊎ (status ≡ SINK_FAILED)
-  pub done : status ≡ DONE
-      → ((text : List ℕ) × Writes bytes text × Gains out text) × IsSteady out
+  pub done : status ≡ DONE → (text : List ℕ) × Writes bytes text × GainsAll out text
   pub refused : status ≡ REFUSED → (lines : List ℕ) × Refuses bytes lines × GainsUnless out lines
-  pub cut_short : status ≡ SINK_FAILED
-      → ((text : List ℕ) × Writes bytes text × GainsFront out text) × Fails out
-
--- the end of a replay, which writes the printed history
-abbrev pub EndsReplay : ℕ → List ℕ → SinkChange → Type 0
-EndsReplay status bytes out = EndsRecording ReplaysTo RefusesRecording status bytes out
+  pub cut_short : status ≡ SINK_FAILED → (text : List ℕ) × Writes bytes text × GainsPart out text
 
 -- the bytes are a well-formed recording, whether a server made it or not, and this is its dump
 pub record DumpsTo (bytes text : List ℕ) : Type 0 where
@@ -63,10 +57,6 @@ pub record DumpsTo (bytes text : List ℕ) : Type 0 where
   pub formed : IsFormed caps entries
   pub recording : bytes ≡ record_text caps entries
   pub text_is : text ≡ dumped caps entries
-
--- the end of a dump
-abbrev pub EndsDump : ℕ → List ℕ → SinkChange → Type 0
-EndsDump status bytes out = EndsRecording DumpsTo RefusesForm status bytes out
 
 -- The bytes are a recording of the first version, and this is the upgraded one, which a recording
 -- may have. If the first version's rules give its history, the text is the recording of the same
@@ -94,7 +84,3 @@ RefusesUpgrade bytes lines =
     × (max_recording < length (upgraded_text max_recording caps history))
     × (lines
     ≡ too_large_text (length (upgraded_text max_recording caps history)) max_recording))
-
--- the end of an upgrade
-abbrev pub EndsUpgrade : ℕ → List ℕ → SinkChange → Type 0
-EndsUpgrade status bytes out = EndsRecording UpgradesTo RefusesUpgrade status bytes out

@@ -1,4 +1,4 @@
--- Inside the crate: what reading a source to its end and writing bytes to a sink come to.
+-- Inside the crate: the results of reading a source to its end, and of writing bytes to a sink.
 use Rattle.std.specs.Prelude.{◌≡◌, ℕ, ◌+◌, ◌<◌, ◌≤◌, List, [], length, take, drop, Option, Some}
 use Rattle.std.specs.Prelude.{IfSome}
 use Rattle.osc_edge.specs.Faults.{Rose}
@@ -12,7 +12,7 @@ use Rattle.osc_ends.specs.declared.whole.Piece.TheVariants.{NoMemory as PieceNoM
 use Rattle.osc_ends.specs.Ends.{left_behind}
 use Rattle.osc_ends.specs.Sinks.{SinkChange, GainsAll, GainsPart}
 
--- What was read, if what was left is told: all of it, or up to the first byte past the limit, where
+-- What was read, if what was left is reported: all of it, or up to the first byte past the limit, where
 -- more was left.
 abbrev pub HasRead : Input → ℕ → Option (List ℕ) → Option (List ℕ) → ℕ → ℕ → Type 0
 HasRead (Whole bytes) most left after faults later =
@@ -44,7 +44,7 @@ HasReadPiece End most left after faults later old new =
 HasReadPiece PieceFailed most left after faults later old new = Rose faults later
 HasReadPiece PieceNoMemory most left after faults later old new = Unit {0}
 
--- what writing bytes to a sink came to
+-- the result of writing bytes to a sink
 abbrev pub HasWritten : Written → SinkChange → List ℕ → Type 0
 HasWritten Wrote out bytes = GainsAll out bytes
 HasWritten Refused out bytes = GainsPart out bytes

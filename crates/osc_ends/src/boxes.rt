@@ -8,7 +8,7 @@ use std::alloc::{AllocError, Global};
 /// How many methods a script of the program can add.
 const BOXES: usize = 8192;
 
-/// How many bytes each of its boxes tells.
+/// How many bytes each of its boxes reports.
 const KEPT: u32 = 64;
 
 /// The boxes that a program hands to its top call. An `Err` means out of memory.

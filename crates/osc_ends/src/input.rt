@@ -32,7 +32,7 @@ ghost use Rattle.osc_ends.specs.Inputs.{
   read_status,
 };
 ghost use Rattle.osc_ends.specs.Printing.{refusal_text};
-ghost use Rattle.osc_ends.specs.Sinks.{sink_change, GainsUnless};
+ghost use Rattle.osc_ends.specs.Sinks.{change, GainsUnless};
 
 use crate::prints::{malformed, refuse};
 use crate::status::{NO_MEMORY, SOURCE_FAILED};
@@ -42,8 +42,9 @@ use osc_record::MAX_RECORDING;
 use osc_script::{Line, MAX_SCRIPT, Mode, Script, ScriptFault, ScriptRefusal};
 use std::alloc::Global;
 
-/// The lines of the script that the input is, or the status with which the program ends: 1, where the script is
-/// refused, of which a line is written, 3 or 4. The memory of the input is given back.
+/// The lines of the script that the input is, or the status with which the program ends: 1, where
+/// the script is refused, of which a line is written, 3 or 4. The memory of the input is given
+/// back.
 pub fn read_script<S: Source, O: Sink>(
     alloc: Global,
     mode: Mode,
@@ -56,9 +57,8 @@ pub fn read_script<S: Source, O: Sink>(
     ensures whole { IfOk result
         (λ lines. IfSome (S.left input.old) (λ all. S.left input.new ≡ Some [])) }
     ensures refused { IfErr result (λ status. RefusesScript mode status (S.left input.old)
-        (sink_change O.held O.faults out.old out.new)) }
-    ensures input { ReadsInput MAX_SCRIPT (read_status result) (S.left input.old)
-        (S.left input.new) (S.faults input.old) (S.faults input.new) }
+        (change O.Sink out.old out.new)) }
+    ensures input { ReadsInput S.Source MAX_SCRIPT (read_status result) input.old input.new }
     ensures unwritten { (read_status result ≡ DONE) ⊎ (read_status result ≡ SOURCE_FAILED)
         → out.new ≡ out.old }
 {
@@ -83,8 +83,7 @@ pub(crate) fn read_lines<O: Sink>(
     ensures known { IfErr result (λ status. (status ≡ REFUSED) ⊎ (status ≡ NO_MEMORY)) }
     ensures refused { IfErr result (λ status. status ≡ REFUSED
         → IsErrAnd (script_of mode script.now)
-        (λ fault. GainsUnless (sink_change O.held O.faults out.old out.new)
-        (refusal_text fault))) }
+        (λ fault. GainsUnless (change O.Sink out.old out.new) (refusal_text fault))) }
 {
     match Script::read(alloc, script, mode) {
         Ok(script) => Ok(script.into_lines()),
@@ -98,8 +97,7 @@ pub(crate) fn refuse_long<O: Sink>(alloc: Global, out: &mut O) -> u8
     ensures known { (result ≡ REFUSED) ⊎ (result ≡ NO_MEMORY) }
     ensures refused { (mode : Mode) (script : List ℕ) → MAX_SCRIPT < length script
         → result ≡ REFUSED → IsErrAnd (script_of mode script)
-        (λ fault. GainsUnless (sink_change O.held O.faults out.old out.new)
-        (refusal_text fault)) }
+        (λ fault. GainsUnless (change O.Sink out.old out.new) (refusal_text fault)) }
 {
     let fault = ScriptFault {
         line: 0,
@@ -108,8 +106,8 @@ pub(crate) fn refuse_long<O: Sink>(alloc: Global, out: &mut O) -> u8
     refuse(alloc, fault, out)
 }
 
-/// The bytes of the recording that the input is, or the status with which the program ends: 1, where there are too
-/// many, of which a line is written, 3 or 4.
+/// The bytes of the recording that the input is, or the status with which the program ends: 1,
+/// where there are too many, of which a line is written, 3 or 4.
 pub fn read_recording<S: Source, O: Sink>(
     alloc: Global,
     input: &mut S,
@@ -121,9 +119,8 @@ pub fn read_recording<S: Source, O: Sink>(
     ensures whole { IfOk result
         (λ bytes. IfSome (S.left input.old) (λ all. S.left input.new ≡ Some [])) }
     ensures refused { IfErr result (λ status. RefusesLength status (S.left input.old)
-        (sink_change O.held O.faults out.old out.new)) }
-    ensures input { ReadsInput max_recording (read_status result) (S.left input.old)
-        (S.left input.new) (S.faults input.old) (S.faults input.new) }
+        (change O.Sink out.old out.new)) }
+    ensures input { ReadsInput S.Source max_recording (read_status result) input.old input.new }
     ensures unwritten { (read_status result ≡ DONE) ⊎ (read_status result ≡ SOURCE_FAILED)
         → out.new ≡ out.old }
 {

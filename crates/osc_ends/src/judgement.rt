@@ -13,7 +13,7 @@ ghost use Rattle.osc_script.specs.Scripts.{script_of, AreOf};
 ghost use Rattle.osc_ends.specs.Inputs.{OfInput, ReadsInput, read_status};
 ghost use Rattle.osc_ends.specs.Judging.{Empties, IsAll, IsChecked, IsReadOf, RefusesPast};
 ghost use Rattle.osc_ends.specs.Printing.{refusal_text};
-ghost use Rattle.osc_ends.specs.Sinks.{sink_change, GainsUnless};
+ghost use Rattle.osc_ends.specs.Sinks.{change, GainsUnless};
 
 use crate::input::{read_lines, refuse_long};
 use crate::prints::{disagrees, malformed};
@@ -33,15 +33,14 @@ pub enum Whole {
     TooLong,
 }
 
-/// Reads an input to its end, or to one byte past the limit. The `Err` is the status with which the program ends: 3,
-/// or 4 where the source failed.
+/// Reads an input to its end, or to one byte past the limit. The `Err` is the status with which the
+/// program ends: 3, or 4 where the source failed.
 pub fn read_input<S: Source>(alloc: Global, most: usize, input: &mut S) -> Result<Whole, u8>
     requires { most ≤ max_recording }
     ensures bytes { IfOk result (λ whole. OfInput (S.left input.old) (IsReadOf most whole)) }
     ensures whole { IfOk result (λ whole. Empties whole (S.left input.old) (S.left input.new)) }
     ensures known { IfErr result (λ status. (status ≡ NO_MEMORY) ⊎ (status ≡ SOURCE_FAILED)) }
-    ensures input { ReadsInput most (read_status result) (S.left input.old) (S.left input.new)
-        (S.faults input.old) (S.faults input.new) }
+    ensures input { ReadsInput S.Source most (read_status result) input.old input.new }
 {
     match read_whole(alloc, most, input) {
         Input::Whole(bytes) => Ok(Whole::Bytes(bytes)),
@@ -51,8 +50,8 @@ pub fn read_input<S: Source>(alloc: Global, most: usize, input: &mut S) -> Resul
     }
 }
 
-/// The lines of the script that was read, or the status with which the program ends: 1, where it is refused, of which a
-/// line is written, or 3. The memory of what was read is given back.
+/// The lines of the script that was read, or the status with which the program ends: 1, where it is
+/// refused, of which a line is written, or 3. The memory of what was read is given back.
 pub fn judge_script<O: Sink>(
     alloc: Global,
     mode: Mode,
@@ -67,8 +66,7 @@ pub fn judge_script<O: Sink>(
     ensures known { IfErr result (λ status. (status ≡ REFUSED) ⊎ (status ≡ NO_MEMORY)) }
     ensures refused { (script : List ℕ) → IsReadOf MAX_SCRIPT whole script
         → IfErr result (λ status. status ≡ REFUSED → IsErrAnd (script_of mode script)
-        (λ fault. GainsUnless (sink_change O.held O.faults out.old out.new)
-        (refusal_text fault))) }
+        (λ fault. GainsUnless (change O.Sink out.old out.new) (refusal_text fault))) }
 {
     match whole {
         Whole::Bytes(bytes) => read_lines(alloc, mode, &bytes, out),
@@ -76,8 +74,8 @@ pub fn judge_script<O: Sink>(
     }
 }
 
-/// A replay of what was read, where it is the recording of a legal history, or the status with which the program ends:
-/// 1, where it is refused, of which lines are written, or 3.
+/// A replay of what was read, where it is the recording of a legal history, or the status with
+/// which the program ends: 1, where it is refused, of which lines are written, or 3.
 pub fn judge_recording<'a, O: Sink>(
     alloc: Global,
     whole: &'a Whole,
@@ -91,7 +89,7 @@ pub fn judge_recording<'a, O: Sink>(
     ensures known { IfErr result (λ status. (status ≡ REFUSED) ⊎ (status ≡ NO_MEMORY)) }
     ensures refused { (bytes : List ℕ) → IsReadOf max_recording whole.now bytes → IfErr result
         (λ status. status ≡ REFUSED
-        → RefusesPast bytes (sink_change O.held O.faults out.old out.new)) }
+        → RefusesPast bytes (change O.Sink out.old out.new)) }
     ensures complete { (bytes : List ℕ) (caps : Limits) (history : List Entry)
         → IsReadOf max_recording whole.now bytes → IsRecordingOf bytes caps history
         → IfErr result (λ status. status ≡ NO_MEMORY) }
@@ -113,7 +111,7 @@ pub(crate) fn refuse_recording<O: Sink>(alloc: Global, fault: ReplayFault, out: 
         → OnMalformed {X = List ℕ} (Err fault) (λ at. IsUnformedAt bytes at)
         → OnDisagrees {X = List ℕ} (Err fault)
         (λ entry kept computed. DisagreesAt bytes entry kept computed)
-        → result ≡ REFUSED → RefusesPast bytes (sink_change O.held O.faults out.old out.new) }
+        → result ≡ REFUSED → RefusesPast bytes (change O.Sink out.old out.new) }
     ensures short { fault ≡ replay_fault.NoMemory → result ≡ NO_MEMORY }
 {
     match fault {

@@ -12,7 +12,8 @@ use osc_atoms::Room;
 pub enum Outcome {
     /// All of it was played.
     Done,
-    /// There was no room for an entry in the recording: so many bytes were needed, and so many were free.
+    /// There was no room for an entry in the recording: so many bytes were needed, and so many were
+    /// free.
     Full { need: u64, free: u64 },
     /// A link failed; this is the least one that did.
     LinkFailed(u32),

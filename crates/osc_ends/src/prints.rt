@@ -31,8 +31,16 @@ ghost use Rattle.osc_ends.specs.Printing.{
 };
 ghost use Rattle.osc_ends.specs.Outcomes as outcomes;
 ghost use Rattle.osc_ends.specs.Ends.{IsWritten, EndsText, EndsLine};
-ghost use Rattle.osc_ends.specs.Recordings.{EndsReplay, EndsDump, EndsUpgrade};
-ghost use Rattle.osc_ends.specs.Sinks.{sink_change};
+ghost use Rattle.osc_ends.specs.Recordings.{
+  EndsRecording,
+  DumpsTo,
+  RefusesForm,
+  RefusesRecording,
+  RefusesUpgrade,
+  ReplaysTo,
+  UpgradesTo,
+};
+ghost use Rattle.osc_ends.specs.Sinks.{change};
 
 use crate::lines::{
     bank_short_line, callers_full_line, disagrees_lines, malformed_line, outcome_line,
@@ -59,7 +67,7 @@ pub fn write_run_text<O: Sink>(alloc: Global, recorded: &Recorded, out: &mut O) 
         → IsRecordingOf recorded.now.bytes.items caps history →
         EndsText (outcomes.status_of recorded.now.outcome) result
         (recorded_text caps history recorded.now.faults recorded.now.outcome)
-        (sink_change O.held O.faults out.old out.new) }
+        (change O.Sink out.old out.new) }
 {
     match run_text(alloc, recorded) {
         Ok(text) => write_text(status_of(recorded.outcome), text.bytes(), out),
@@ -67,7 +75,8 @@ pub fn write_run_text<O: Sink>(alloc: Global, recorded: &Recorded, out: &mut O) 
     }
 }
 
-/// The printed history, the lines of the faults, and where it was stopped the line on that. An `Err` means out of memory.
+/// The printed history, the lines of the faults, and where it was stopped the line on that. An
+/// `Err` means out of memory.
 fn run_text(alloc: Global, recorded: &Recorded) -> Result<Text, AllocError>
     requires { (caps : Limits) × (history : List Entry)
         × IsRecordingOf recorded.now.bytes.items caps history }
@@ -86,8 +95,8 @@ fn run_text(alloc: Global, recorded: &Recorded) -> Result<Text, AllocError>
     Ok(text)
 }
 
-/// Writes the text of what was recorded after a past, whose replay goes on with it: the status with which the program
-/// ends. What the past has isn't replayed again.
+/// Writes the text of what was recorded after a past, whose replay goes on with it: the status with
+/// which the program ends. What the past has isn't replayed again.
 pub fn write_resumed_text<'a, O: Sink>(
     alloc: Global,
     past: Replay<'a>,
@@ -99,7 +108,7 @@ pub fn write_resumed_text<'a, O: Sink>(
         → IsRecordingOf recorded.now.bytes.items caps history →
         EndsText (outcomes.status_of recorded.now.outcome) result
         (recorded_text caps history recorded.now.faults recorded.now.outcome)
-        (sink_change O.held O.faults out.old out.new) }
+        (change O.Sink out.old out.new) }
 {
     match resumed_text(alloc, past, recorded) {
         Ok(text) => write_text(status_of(recorded.outcome), text.bytes(), out),
@@ -135,10 +144,12 @@ fn end_text(text: &mut Text, recorded: &Recorded) -> Result<(), AllocError>
     Ok(())
 }
 
-/// Replays the recording, and writes its printed text, or why it is refused: the status with which the program ends.
+/// Replays the recording, and writes its printed text, or why it is refused: the status with which
+/// the program ends.
 pub fn write_replay<O: Sink>(alloc: Global, bytes: &[u8], out: &mut O) -> u8
     requires { length bytes.now ≤ max_recording }
-    ensures ends { EndsReplay result bytes.now (sink_change O.held O.faults out.old out.new) }
+    ensures ends { EndsRecording ReplaysTo RefusesRecording result bytes.now
+        (change O.Sink out.old out.new) }
     ensures replayed { (caps : Limits) (history : List Entry) → IsRecordingOf bytes.now caps history
         → (result ≡ DONE) ⊎ (result ≡ NO_MEMORY) ⊎ (result ≡ SINK_FAILED) }
 {
@@ -157,10 +168,12 @@ pub fn write_replay<O: Sink>(alloc: Global, bytes: &[u8], out: &mut O) -> u8
     }
 }
 
-/// Writes the dump of the recording, or the place where it is malformed: the status with which the program ends.
+/// Writes the dump of the recording, or the place where it is malformed: the status with which the
+/// program ends.
 pub fn write_dump<O: Sink>(alloc: Global, bytes: &[u8], out: &mut O) -> u8
     requires { length bytes.now ≤ max_recording }
-    ensures ends { EndsDump result bytes.now (sink_change O.held O.faults out.old out.new) }
+    ensures ends { EndsRecording DumpsTo RefusesForm result bytes.now
+        (change O.Sink out.old out.new) }
     ensures complete { (caps : Limits) (entries : List Entry) → IsFormed caps entries
         → bytes.now ≡ record_text caps entries
         → (result ≡ DONE) ⊎ (result ≡ NO_MEMORY) ⊎ (result ≡ SINK_FAILED) }
@@ -172,11 +185,12 @@ pub fn write_dump<O: Sink>(alloc: Global, bytes: &[u8], out: &mut O) -> u8
     }
 }
 
-/// Writes the recording of the first version as one of today, or why it is refused: the status with which the program
-/// ends.
+/// Writes the recording of the first version as one of today, or why it is refused: the status with
+/// which the program ends.
 pub fn write_upgrade<O: Sink>(alloc: Global, bytes: &[u8], out: &mut O) -> u8
     requires { length bytes.now ≤ max_recording }
-    ensures ends { EndsUpgrade result bytes.now (sink_change O.held O.faults out.old out.new) }
+    ensures ends { EndsRecording UpgradesTo RefusesUpgrade result bytes.now
+        (change O.Sink out.old out.new) }
     ensures complete { (caps : Limits) (history : List Entry)
         → IsOldRecordingOf bytes.now caps history
         → length (upgraded_text max_recording caps history) ≤ max_recording
@@ -193,7 +207,7 @@ pub fn write_upgrade<O: Sink>(alloc: Global, bytes: &[u8], out: &mut O) -> u8
 /// Writes a text: the status, 5 where the sink failed, or 3 where it had no memory.
 pub fn write_text<O: Sink>(status: u8, text: &[u8], out: &mut O) -> u8
     requires { IsWritten status }
-    ensures { EndsText status result text.now (sink_change O.held O.faults out.old out.new) }
+    ensures { EndsText status result text.now (change O.Sink out.old out.new) }
 {
     match write_whole(out, text) {
         Written::Wrote => status,
@@ -204,8 +218,7 @@ pub fn write_text<O: Sink>(status: u8, text: &[u8], out: &mut O) -> u8
 
 /// Writes the line of a script that is refused.
 pub(crate) fn refuse<O: Sink>(alloc: Global, fault: ScriptFault, out: &mut O) -> u8
-    ensures { EndsLine REFUSED result (refusal_text fault)
-        (sink_change O.held O.faults out.old out.new) }
+    ensures { EndsLine REFUSED result (refusal_text fault) (change O.Sink out.old out.new) }
 {
     let mut text = Text::open(alloc);
     match refusal_line(&mut text, fault) {
@@ -216,8 +229,7 @@ pub(crate) fn refuse<O: Sink>(alloc: Global, fault: ScriptFault, out: &mut O) ->
 
 /// Writes the line of a score that is refused.
 pub(crate) fn refuse_score<O: Sink>(alloc: Global, fault: ScoreFault, out: &mut O) -> u8
-    ensures { EndsLine REFUSED result (score_fault_text fault)
-        (sink_change O.held O.faults out.old out.new) }
+    ensures { EndsLine REFUSED result (score_fault_text fault) (change O.Sink out.old out.new) }
 {
     let mut text = Text::open(alloc);
     match score_fault_line(&mut text, fault) {
@@ -228,8 +240,7 @@ pub(crate) fn refuse_score<O: Sink>(alloc: Global, fault: ScoreFault, out: &mut 
 
 /// Writes the line of a recording that is malformed at a place.
 pub(crate) fn malformed<O: Sink>(alloc: Global, at: u32, out: &mut O) -> u8
-    ensures { EndsLine REFUSED result (malformed_text at)
-        (sink_change O.held O.faults out.old out.new) }
+    ensures { EndsLine REFUSED result (malformed_text at) (change O.Sink out.old out.new) }
 {
     let mut text = Text::open(alloc);
     match malformed_line(&mut text, at) {
@@ -240,8 +251,7 @@ pub(crate) fn malformed<O: Sink>(alloc: Global, at: u32, out: &mut O) -> u8
 
 /// Writes the line of a recording whose upgrade needs more bytes than the limit.
 fn too_large<O: Sink>(alloc: Global, need: u64, limit: u32, out: &mut O) -> u8
-    ensures { EndsLine REFUSED result (too_large_text need limit)
-        (sink_change O.held O.faults out.old out.new) }
+    ensures { EndsLine REFUSED result (too_large_text need limit) (change O.Sink out.old out.new) }
 {
     let mut text = Text::open(alloc);
     match too_large_line(&mut text, need, limit) {
@@ -259,7 +269,7 @@ pub(crate) fn disagrees<O: Sink>(
     out: &mut O,
 ) -> u8
     ensures { EndsLine REFUSED result (disagrees_text entry kept.now computed.now)
-        (sink_change O.held O.faults out.old out.new) }
+        (change O.Sink out.old out.new) }
 {
     let mut text = Text::open(alloc);
     match disagrees_lines(
@@ -277,7 +287,7 @@ pub(crate) fn disagrees<O: Sink>(
 /// Writes the line of a script that adds more methods than there are boxes: 8, or out of memory.
 pub fn bank_short<O: Sink>(alloc: Global, need: usize, have: usize, out: &mut O) -> u8
     ensures { EndsLine BANK_SHORT result (bank_short_text need have)
-        (sink_change O.held O.faults out.old out.new) }
+        (change O.Sink out.old out.new) }
 {
     let mut text = Text::open(alloc);
     match bank_short_line(&mut text, need, have) {
@@ -286,11 +296,11 @@ pub fn bank_short<O: Sink>(alloc: Global, need: usize, have: usize, out: &mut O)
     }
 }
 
-/// Writes the line of a recording whose callers and lanes together are more than its limits allow: 9, or out of
-/// memory.
+/// Writes the line of a recording whose callers and lanes together are more than its limits allow:
+/// 9, or out of memory.
 pub fn callers_full<O: Sink>(alloc: Global, need: usize, have: usize, out: &mut O) -> u8
     ensures { EndsLine CALLERS_FULL result (callers_full_text need have)
-        (sink_change O.held O.faults out.old out.new) }
+        (change O.Sink out.old out.new) }
 {
     let mut text = Text::open(alloc);
     match callers_full_line(&mut text, need, have) {
@@ -301,7 +311,7 @@ pub fn callers_full<O: Sink>(alloc: Global, need: usize, have: usize, out: &mut 
 
 /// Writes the line of words that are no command: 2, or out of memory.
 pub fn usage<O: Sink>(out: &mut O) -> u8
-    ensures { EndsLine USAGE result usage_text (sink_change O.held O.faults out.old out.new) }
+    ensures { EndsLine USAGE result usage_text (change O.Sink out.old out.new) }
 {
     last_line(USAGE, b"usage\n", out)
 }
@@ -309,7 +319,7 @@ pub fn usage<O: Sink>(out: &mut O) -> u8
 /// A last line that can't be written changes no status, except when out of memory.
 fn last_line<O: Sink>(status: u8, line: &[u8], out: &mut O) -> u8
     requires { status ≢ NO_MEMORY }
-    ensures { EndsLine status result line.now (sink_change O.held O.faults out.old out.new) }
+    ensures { EndsLine status result line.now (change O.Sink out.old out.new) }
 {
     match write_whole(out, line) {
         Written::Short => NO_MEMORY,

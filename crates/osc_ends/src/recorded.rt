@@ -1,9 +1,9 @@
-//! What a script came to.
+//! The result of a script.
 
 use crate::outcome::Outcome;
 use osc_print::Text;
 
-/// What a script came to.
+/// The result of a script.
 #[derive(Drop)]
 pub struct Recorded {
     /// The recording of its history.

@@ -27,7 +27,7 @@ ghost use Rattle.osc_score.specs.Plans.{plan_of};
 ghost use Rattle.osc_score.specs.Reading.{score_of};
 ghost use Rattle.osc_ends.specs.Inputs.{OfInput, ReadsInput, RefusesScore, read_status};
 ghost use Rattle.osc_ends.specs.Printing.{score_fault_text};
-ghost use Rattle.osc_ends.specs.Sinks.{sink_change, GainsUnless};
+ghost use Rattle.osc_ends.specs.Sinks.{change, GainsUnless};
 
 use crate::prints::refuse_score;
 use crate::status::{NO_MEMORY, SOURCE_FAILED};
@@ -36,8 +36,8 @@ use osc_edge::{Sink, Source};
 use osc_score::{MAX_SCORE, Score, ScoreFault, ScoreRefusal};
 use std::alloc::Global;
 
-/// The score that the input is, or the status with which the program ends: 1, where the score is refused, of which a
-/// line is written, 3 or 4. The memory of the input is given back.
+/// The score that the input is, or the status with which the program ends: 1, where the score is
+/// refused, of which a line is written, 3 or 4. The memory of the input is given back.
 pub fn read_score<S: Source, O: Sink>(
     alloc: Global,
     input: &mut S,
@@ -49,9 +49,8 @@ pub fn read_score<S: Source, O: Sink>(
     ensures whole { IfOk result
         (λ score. IfSome (S.left input.old) (λ all. S.left input.new ≡ Some [])) }
     ensures refused { IfErr result (λ status. RefusesScore status (S.left input.old)
-        (sink_change O.held O.faults out.old out.new)) }
-    ensures input { ReadsInput MAX_SCORE (read_status result) (S.left input.old)
-        (S.left input.new) (S.faults input.old) (S.faults input.new) }
+        (change O.Sink out.old out.new)) }
+    ensures input { ReadsInput S.Source MAX_SCORE (read_status result) input.old input.new }
     ensures unwritten { (read_status result ≡ DONE) ⊎ (read_status result ≡ SOURCE_FAILED)
         → out.new ≡ out.old }
 {
@@ -70,8 +69,7 @@ fn read_notes<O: Sink>(alloc: Global, bytes: &[u8], out: &mut O) -> Result<Score
     ensures unwritten { IfOk result (λ score. out.new ≡ out.old) }
     ensures known { IfErr result (λ status. (status ≡ REFUSED) ⊎ (status ≡ NO_MEMORY)) }
     ensures refused { IfErr result (λ status. status ≡ REFUSED → IsErrAnd (score_of bytes.now)
-        (λ fault. GainsUnless (sink_change O.held O.faults out.old out.new)
-        (score_fault_text fault))) }
+        (λ fault. GainsUnless (change O.Sink out.old out.new) (score_fault_text fault))) }
 {
     match Score::read(alloc, bytes) {
         Ok(score) => Ok(score),
@@ -85,8 +83,7 @@ fn refuse_long<O: Sink>(alloc: Global, out: &mut O) -> u8
     ensures known { (result ≡ REFUSED) ⊎ (result ≡ NO_MEMORY) }
     ensures refused { (score : List ℕ) → MAX_SCORE < length score → result ≡ REFUSED
         → IsErrAnd (score_of score)
-        (λ fault. GainsUnless (sink_change O.held O.faults out.old out.new)
-        (score_fault_text fault)) }
+        (λ fault. GainsUnless (change O.Sink out.old out.new) (score_fault_text fault)) }
 {
     let fault = ScoreFault {
         line: 0,

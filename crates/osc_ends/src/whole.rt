@@ -1,7 +1,7 @@
 // Reads a source to its end, and writes bytes to a sink.
 ghost use Rattle.osc_model.specs.Limits.{max_recording};
 ghost use Rattle.std.specs.Prelude.{ℕ, ◌+◌, ◌<◌, ◌≤◌, length};
-ghost use Rattle.osc_ends.specs.Sinks.{sink_change};
+ghost use Rattle.osc_ends.specs.Sinks.{change};
 ghost use Rattle.osc_ends.specs.Whole.{HasRead, HasWritten, HasReadPiece};
 
 use osc_edge::{Put, Sink, Source, Taken};
@@ -81,7 +81,7 @@ pub(crate) enum Written {
 }
 
 pub(crate) fn write_whole<O: Sink>(out: &mut O, bytes: &[u8]) -> Written
-    ensures { HasWritten result (sink_change O.held O.faults out.old out.new) bytes.now }
+    ensures { HasWritten result (change O.Sink out.old out.new) bytes.now }
 {
     let mut at = 0;
     while at < bytes.len() {

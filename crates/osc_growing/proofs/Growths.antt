@@ -8,7 +8,7 @@ use Rattle.std.proofs.lemmas.Grind.{flat_map-append}
 use Rattle.std.proofs.Math.Seq.{take-add}
 use Rattle.osc_edge.specs.Faults.{Rose}
 use Rattle.std.specs.Prelude.{Option, Some, None}
-use Rattle.osc_ends.specs.Sinks.{SinkChange, sink_change, GainsAll, GainsPart}
+use Rattle.osc_ends.specs.Sinks.{SinkChange, SinkOf, change, GainsAll, GainsPart}
 use Rattle.osc_model.specs.Limits.{Limits}
 use Rattle.osc_model.specs.Events.{Entry}
 use Rattle.osc_model.specs.Recordings.{record_text, header_text, entry_text}
@@ -127,10 +127,10 @@ grown_within Failed sink text grown = tt
 grown_within NoMemory sink text grown = tt
 
 -- what whoever has looked has written was written of what was recorded in the end
-pub looked_grown : {R : Type 0} (held : R → Option (List ℕ)) (faults : R → ℕ) (caps : Limits) (before after : R) (bytes : List ℕ) (looked : Option Growth)
-    → HasLookedOn (λ (b a : R) (end : Growth) (c : Limits) (v : View). HasGrown end (sink_change held faults b a) (recorded c v)) caps before after bytes looked
-    → HasGrown (growth_of looked) (sink_change held faults before after) bytes
-looked_grown {R} held faults caps before after bytes None same =
-    subst (λ (r : R). HasGrown (Written 0) (sink_change held faults before r) bytes) (sym same) (grown_none (held before) (faults before) bytes)
-looked_grown {R} held faults caps before after bytes (Some end) looked =
-    grown_whole end (sink_change held faults before after) caps looked.0 looked.1 bytes looked.4 looked.3 looked.2
+pub looked_grown : {R : Type 0} (sink : SinkOf R) (caps : Limits) (before after : R) (bytes : List ℕ) (looked : Option Growth)
+    → HasLookedOn (λ (b a : R) (end : Growth) (c : Limits) (v : View). HasGrown end (change sink b a) (recorded c v)) caps before after bytes looked
+    → HasGrown (growth_of looked) (change sink before after) bytes
+looked_grown {R} sink caps before after bytes None same =
+    subst (λ (r : R). HasGrown (Written 0) (change sink before r) bytes) (sym same) (grown_none (sink.held before) (sink.faults before) bytes)
+looked_grown {R} sink caps before after bytes (Some end) looked =
+    grown_whole end (change sink before after) caps looked.0 looked.1 bytes looked.4 looked.3 looked.2

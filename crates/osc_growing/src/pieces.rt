@@ -1,6 +1,6 @@
 //! Writes a recording piece by piece while it grows.
 ghost use Rattle.std.specs.Prelude.{◌≡◌, ◌+◌, ◌<◌, ◌≤◌, ◌^◌, ℕ, List, length, take, drop};
-ghost use Rattle.osc_ends.specs.Sinks.{sink_change};
+ghost use Rattle.osc_ends.specs.Sinks.{change};
 ghost use Rattle.osc_turn.specs.Passes.{view};
 ghost use Rattle.osc_live.specs.Seen.{history_of};
 ghost use Rattle.osc_live.specs.Tokens.{IsOurs};
@@ -49,7 +49,7 @@ pub fn write_while<M: Method, W: Wait, R: Sink>(
     ensures ours { IsOurs live.now result.0 }
     ensures number { result.0.number ≡ first.number }
     ensures looked { HasLooked (view first.pass) (view result.0.pass) }
-    ensures grown { HasGrown result.1 (sink_change R.held R.faults rec.old rec.new)
+    ensures grown { HasGrown result.1 (change R.Sink rec.old rec.new)
         (recorded live.now.caps (view result.0.pass)) }
     ensures between { EndsBetween result.1 live.now.caps (history_of (view result.0.pass)) }
 {
@@ -74,7 +74,7 @@ fn write_pieces<M: Method, W: Wait, R: Sink>(
     ensures ours { IsOurs live.now result.0 }
     ensures number { result.0.number ≡ first.number }
     ensures looked { HasLooked (view first.pass) (view result.0.pass) }
-    ensures grown { HasGrown result.1 (sink_change R.held R.faults rec.old rec.new)
+    ensures grown { HasGrown result.1 (change R.Sink rec.old rec.new)
         (recorded live.now.caps (view result.0.pass)) }
     ensures between { HasEndIn result.1
         (texts_of live.now.caps (history_of (view result.0.pass))) }
@@ -130,9 +130,9 @@ fn write_new<M: Method, W: Wait, R: Sink>(
     ensures space { length space.new ≡ length space.old }
     ensures between { HasEndIn result.1
         (texts_of live.now.caps (history_of (view result.0.pass))) }
-    ensures grown { (start : R) → HasGrown growth (sink_change R.held R.faults start rec.old)
+    ensures grown { (start : R) → HasGrown growth (change R.Sink start rec.old)
         (recorded live.now.caps (view caller.pass))
-        → HasGrown result.1 (sink_change R.held R.faults start rec.new)
+        → HasGrown result.1 (change R.Sink start rec.new)
         (recorded live.now.caps (view result.0.pass)) }
 {
     osc_model::laws::a_legal_history_is_recordable();
@@ -170,9 +170,9 @@ fn write_large<M: Method, W: Wait, R: Sink>(
     ensures space { length space.new ≡ length space.old }
     ensures place { IsWrittenTo span.end result.1 }
     ensures grown { (start : R)
-        → HasGrown (Written span.from) (sink_change R.held R.faults start rec.old)
+        → HasGrown (Written span.from) (change R.Sink start rec.old)
         (recorded live.now.caps (view caller.pass))
-        → HasGrown result.1 (sink_change R.held R.faults start rec.new)
+        → HasGrown result.1 (change R.Sink start rec.new)
         (recorded live.now.caps (view result.0.pass)) }
 {
     let mut at = span.from;
@@ -195,8 +195,8 @@ fn write_piece<R: Sink>(piece: &[u8], from: u32, rec: &mut R) -> Growth
     ensures place { IsWrittenTo (from + length piece.now) result }
     ensures grown { (start : R) (text : List ℕ) → from + length piece.now ≤ length text
         → piece.now ≡ take (length piece.now) (drop from text)
-        → HasGrown (Written from) (sink_change R.held R.faults start rec.old) text
-        → HasGrown result (sink_change R.held R.faults start rec.new) text }
+        → HasGrown (Written from) (change R.Sink start rec.old) text
+        → HasGrown result (change R.Sink start rec.new) text }
 {
     match write_text(DONE, piece, rec) {
         DONE => Growth::Written(from + piece.len() as u32),

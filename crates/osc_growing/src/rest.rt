@@ -2,7 +2,7 @@
 ghost use Rattle.std.specs.Prelude.{length};
 ghost use Rattle.osc_ends.specs.declared.status.TheConstants.{DONE};
 ghost use Rattle.osc_ends.specs.Ends.{EndsText};
-ghost use Rattle.osc_ends.specs.Sinks.{sink_change};
+ghost use Rattle.osc_ends.specs.Sinks.{change};
 ghost use Rattle.osc_growing.specs.Growing.{HasGrown, IsWithin};
 
 use crate::growth::Growth;
@@ -15,8 +15,8 @@ use osc_ends::write_text;
 pub fn write_rest<R: Sink>(recording: &[u8], growth: Growth, rec: &mut R) -> u8
     requires { IsWithin growth (length recording.now) }
     ensures { (start : R)
-        → HasGrown growth (sink_change R.held R.faults start rec.old) recording.now
-        → EndsText DONE result recording.now (sink_change R.held R.faults start rec.new) }
+        → HasGrown growth (change R.Sink start rec.old) recording.now
+        → EndsText DONE result recording.now (change R.Sink start rec.new) }
 {
     match growth {
         Growth::Written(at) => write_text(DONE, &recording[at as usize..], rec),

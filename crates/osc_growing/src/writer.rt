@@ -1,5 +1,5 @@
 //! Who writes a recording while others play.
-ghost use Rattle.osc_ends.specs.Sinks.{sink_change};
+ghost use Rattle.osc_ends.specs.Sinks.{change};
 ghost use Rattle.osc_growing.specs.Growing.{HasGrown, recorded};
 
 use crate::growth::Growth;
@@ -18,7 +18,7 @@ impl<M: Method, R: Sink> Aside<M, R> for Writer {
     type End = Growth;
 
     ghost looks = { λ before after end caps v. HasGrown end
-        (sink_change R.held R.faults before after) (recorded caps v) };
+        (change R.Sink before after) (recorded caps v) };
 
     fn look<W: Wait, G: Gate>(
         self,

@@ -1,6 +1,6 @@
 //! Serves links on a new server, and closes it.
 ghost use Rattle.std.specs.Prelude.{◌≡◌, ◌<◌, ◌≤◌, ◌+◌, false, [], length, IfOk, None};
-ghost use Rattle.osc_ends.specs.Sinks.{sink_change};
+ghost use Rattle.osc_ends.specs.Sinks.{change};
 ghost use Rattle.osc_growing.specs.Growing.{HasGrown};
 ghost use Rattle.osc_lanes.specs.Performs.{part_of, IsWhole};
 ghost use Rattle.osc_links.specs.Hosts.{Hosts};
@@ -77,7 +77,7 @@ pub fn run_links<
         host.links.bounds (part_of host.opening) host.links.from.items
         (clock_read C.left C.faults clock.old clock.new) hosted) }
     ensures grown { IfOk result (λ hosted. HasGrown hosted.growth
-        (sink_change R.held R.faults rec.old rec.new) hosted.closed.bytes.items) }
+        (change R.Sink rec.old rec.new) hosted.closed.bytes.items) }
 {
     osc_model::laws::a_method_is_called_while_it_is_registered();
     // Limits are in their ranges, as each of them tells.

@@ -22,7 +22,11 @@ use Rattle.osc_plain.specs.declared.report.Report.TheVariants.{Text}
 use Rattle.osc_plain.specs.Commands.{default_limits}
 use Rattle.osc_plain.specs.Runs.{EndsLines}
 use Rattle.osc_plain.proofs.Tops.{lines_sound, notes_short}
-use Rattle.osc_plain.specs.Scores.{EndsNotes, EndsPlayedScore, EndsPlaying, EndsScore, IsScriptOf, IsScriptWith}
+use Rattle.osc_plain.specs.Scores.{EndsNotes, EndsPlayedScore, EndsPlaying, EndsScore, IsScriptWith}
+
+-- the script of the notes is lawful, and has these lines
+abbrev IsScriptOf : List Note → Type 0
+IsScriptOf notes = script_of Plain (score_script notes) ≡ Ok (score_lines notes)
 
 -- what the laws of scores say
 pub record ScoreLaws : Type 0 where
@@ -64,7 +68,7 @@ module _ (laws : ScoreLaws) (bytes : List ℕ) (notes : List Note) (plan : Plan)
 module _ (bytes : List ℕ) (notes : List Note) (status have : ℕ) (out : SinkChange) (plays : PlaysScore default_limits (length bytes) notes)
     (adds : count_adds (score_lines notes) ≡ length (addresses_of notes)) (run : EndsLines Text default_limits status have (score_lines notes) out) where
   pub never_full : status ≢ 6
-  never_full six_is = let clash : false ≡ true = subst (λ (stop : Option Room). IsSome stop) plays.goes_on (run.full six_is).2 in
+  never_full six_is = let clash : false ≡ true = subst (λ (stop : Option Room). IsSome stop) plays.goes_on (run.full six_is).0 in
       absurd (cc (clash))
 
   pub play_ends : (Ends : List Line → Type 0) → Ends (score_lines notes) → ScoreLaws → (plan : Plan) → score_of bytes ≡ Ok notes → plan ≡ plan_of notes

@@ -1,7 +1,9 @@
-use Rattle.std.proofs.Common.{◌≡◌, ◌≢◌, ◌⊎◌, inl, inr, ℕ, ◌<◌, ◌≤◌, List, [], length, Option, Some, None, IfSome, IsOkAnd, Result, Ok, Err}
+use Rattle.std.proofs.Common.{◌≡◌, ◌≢◌, ◌⊎◌, inl, inr, ℕ, ◌<◌, ◌≤◌, List, [], length, Option, Some, None, IfSome}
+use Rattle.std.proofs.Common.{true, false, IsOkAnd, IsSome, Result, Ok, Err}
 use Rattle.std.proofs.Common.{sym, ap, subst, ◌∙◌, arith}
 use Rattle.std.specs.Prelude.{IsSomeAnd, IsErrAnd}
 use Rattle.osc_method.specs.Heard.{Fixed}
+use Rattle.osc_model.specs.Events.{Room}
 use Rattle.osc_model.specs.Limits.{Limits, max_recording}
 use Rattle.osc_score.specs.Scores.{Note}
 use Rattle.osc_score.specs.Scripted.{score_script}
@@ -10,7 +12,7 @@ use Rattle.osc_script.specs.declared.fault.ScriptFault.{ScriptFault}
 use Rattle.osc_script.specs.declared.script.TheConstants.{MAX_SCRIPT}
 use Rattle.osc_script.specs.declared.mode.Mode.TheVariants.{Plain}
 use Rattle.osc_script.specs.Adds.{count_adds}
-use Rattle.osc_script.specs.Scripts.{script_of}
+use Rattle.osc_script.specs.Scripts.{plain_script, script_of}
 use Rattle.osc_words.specs.declared.command.Capacities.{Capacities}
 use Rattle.osc_words.specs.declared.command.Output.{Output}
 use Rattle.osc_words.specs.declared.command.PlainCommand.{PlainCommand}
@@ -21,19 +23,23 @@ use Rattle.osc_ends.proofs.Inputs.{any_bytes, if_any, of_so, refused_bytes}
 use Rattle.osc_ends.specs.declared.status.TheConstants.{DONE, NO_MEMORY, SINK_FAILED}
 use Rattle.osc_ends.specs.CommandEnds.{IsCommandsEnd}
 use Rattle.osc_ends.specs.Ends.{EndsLine, EndsText, left_behind}
-use Rattle.osc_ends.specs.Inputs.{OfInput, RefusesLength, RefusesScript}
+use Rattle.osc_ends.specs.Inputs.{OfInput, RefusesLength, RefusesScript, SourceOf}
 use Rattle.osc_ends.specs.Printing.{bank_short_text, malformed_text, refusal_text}
 use Rattle.osc_ends.specs.Recordings.{EndsRecording}
 use Rattle.osc_ends.specs.Recordings.{DumpsTo, RefusesForm, RefusesRecording, RefusesUpgrade, ReplaysTo, UpgradesTo}
-use Rattle.osc_ends.specs.Sinks.{SinkChange, sink_change, GainsUnless}
+use Rattle.osc_ends.specs.Sinks.{SinkChange, SinkOf, change, GainsUnless}
 use Rattle.osc_player.specs.Enough.{enough}
 use Rattle.osc_player.specs.Plain.{plain}
 use Rattle.osc_plain.specs.declared.report.Report.{Report}
 use Rattle.osc_plain.specs.declared.report.Report.TheVariants.{Text}
 use Rattle.osc_plain.specs.Commands.{default_limits, most_bytes, plain_limits}
 use Rattle.osc_plain.specs.EndsPlain.{CanBeRead, EndsPlain, EndsReading, HandsAllBack}
-use Rattle.osc_plain.specs.Runs.{IsPlayed, IsUnstopped, EndsLines, EndsOver, EndsRun, report_of}
+use Rattle.osc_plain.specs.Runs.{IsPlayed, IsUnstopped, EndsLines, EndsOver, EndsRead, report_of}
 use Rattle.osc_plain.specs.Scores.{EndsNotes, EndsPlaying}
+
+-- the end of a run of a script
+abbrev pub EndsRun : (List Line → Type 0) → ℕ → List ℕ → SinkChange → Type 0
+EndsRun Ends status script out = EndsRead (plain_script script) refusal_text Ends status out
 
 -- too few boxes
 pub short_ends : (report : Report) (caps : Limits) (status status' have have' need : ℕ) (lines : List Line) (out : SinkChange) → status' ≡ status
@@ -114,7 +120,8 @@ notes_short Ends status score out three = record {
   lawful = λ _ short. absurd (short three);
 }
 
-module _ {M : Type 0} (keep : M → Fixed) (tells : M → Option (List ℕ)) (status : ℕ) (bank : List M) (heard : List (ℕ × M)) (left : List M) (out : SinkChange) where
+module _ {M : Type 0} (keep : M → Fixed) (tells : M → Option (List ℕ)) (status : ℕ) (bank : List M) (heard : List (ℕ × M)) (left : List M)
+    (out : SinkChange) where
   -- how lines end
   abbrev pub EndsLinesHere : Report → Limits → List Line → Type 0
   EndsLinesHere report caps lines = EndsOver keep tells report caps status bank heard left out lines
@@ -150,20 +157,20 @@ run_refused Ends status decided input out same refuses read =
     (λ script one refused. record { refused = λ _. refused; lawful = λ lawful _. absurd (lawful one) })
     (λ script three. run_short Ends status script out three) read
 
-module _ {S O M : Type 0} (to_read : S → Option (List ℕ)) (source_faults : S → ℕ) (held : O → Option (List ℕ)) (sink_faults : O → ℕ) (keep : M → Fixed)
-    (tells : M → Option (List ℕ)) (source source_after : S) (out out_after : O) (bank : List M) (heard : List (ℕ × M)) (left : List M) (status : ℕ) where
+module _ {S O M : Type 0} (source_of : SourceOf S) (sink_of : SinkOf O) (keep : M → Fixed) (tells : M → Option (List ℕ)) (source source_after : S)
+    (out out_after : O) (bank : List M) (heard : List (ℕ × M)) (left : List M) (status : ℕ) where
   -- what becomes of the sink
-  abbrev change : SinkChange
-  change = sink_change held sink_faults out out_after
+  abbrev written : SinkChange
+  written = change sink_of out out_after
 
   -- how this command ends
   abbrev pub EndsHere : PlainCommand → Type 0
-  EndsHere command = EndsPlain to_read source_faults held sink_faults keep tells command status source source_after out out_after bank heard left
+  EndsHere command = EndsPlain source_of sink_of keep tells command status source source_after out out_after bank heard left
 
   -- how one ends that reads an input
   abbrev pub EndsWith : ℕ → ℕ → (List ℕ → SinkChange → Type 0) → (List ℕ → Type 0) → Type 0
   EndsWith most decided Ends Can =
-      IsCommandsEnd to_read source_faults held sink_faults most decided source source_after out out_after Ends Can
+      IsCommandsEnd source_of sink_of most decided source source_after out out_after Ends Can
 
   -- a script is run
   abbrev pub EndsRunning : Report → Limits → Type 0
@@ -186,7 +193,7 @@ module _ {S O M : Type 0} (to_read : S → Option (List ℕ)) (source_faults : S
   -- a command that plays nothing was done
   pub unplayed_said : (Ends : ℕ → List ℕ → SinkChange → Type 0) (reading other : Reading) (decided : ℕ) → reading ≡ other → status ≡ decided
       → heard ≡ [] → left ≡ bank
-      → ((all : List ℕ) → Ends status all change → HandsAllBack status bank heard left → EndsReading keep tells status bank heard left other all change)
+      → ((all : List ℕ) → Ends status all written → HandsAllBack status bank heard left → EndsReading keep tells status bank heard left other all written)
       → EndsWith (most_bytes other) decided (Ends decided) (CanBeRead other (length bank)) → EndsHere (Read reading)
   unplayed_said Ends reading other decided is same none all_left so given =
       subst (λ (r : Reading). EndsHere (Read r)) (sym is)
@@ -196,7 +203,7 @@ module _ {S O M : Type 0} (to_read : S → Option (List ℕ)) (source_faults : S
         input = end.input;
         unwritten = end.unwritten;
         ends = λ read.
-            of_so (to_read source) (λ all. Ends status all change) (λ all. EndsReading keep tells status bank heard left other all change)
+            of_so (source_of.left source) (λ all. Ends status all written) (λ all. EndsReading keep tells status bank heard left other all written)
             (λ all ends. so all ends (λ _. (none, all_left))) (end.ends read);
         sink = end.sink;
         steady = end.steady;
@@ -215,14 +222,14 @@ module _ {S O M : Type 0} (to_read : S → Option (List ℕ)) (source_faults : S
     input = record {
       source = λ four. absurd (omega (arith, three, four));
       sound = λ short. absurd (short three);
-      read = if_any (to_read source)
-          (λ all. status ≢ 3 → status ≢ 4 → to_read source_after ≡ Some (left_behind (most_bytes reading) all)) (λ all short. absurd (short three));
+      read = if_any (source_of.left source)
+          (λ all. status ≢ 3 → status ≢ 4 → source_of.left source_after ≡ Some (left_behind (most_bytes reading) all)) (λ all short. absurd (short three));
     };
     unwritten = λ four. absurd (omega (arith, three, four));
     ends = λ _.
-        any_bytes (to_read source)
-        (λ all. EndsReading keep tells status bank heard left reading all change)
-        (λ all. reading_short keep tells status bank heard left change three reading all);
+        any_bytes (source_of.left source)
+        (λ all. EndsReading keep tells status bank heard left reading all written)
+        (λ all. reading_short keep tells status bank heard left written three reading all);
     sink = λ five. absurd (omega (arith, three, five));
     steady = λ zero_is. absurd (omega (arith, three, zero_is));
     ended = λ zero_is. absurd (omega (arith, three, zero_is));
@@ -244,7 +251,7 @@ pub any_said : (said : Option PlainCommand) (holds : PlainCommand → Type 0) �
 any_said None holds all = tt
 any_said (Some command) holds all = all command
 
--- a recording that is too long is refused as one that is malformed behind the last byte that it may have
+-- a recording that is too long is refused as one that is malformed after the last byte that it may have
 pub length_ends : (Writes Refuses : List ℕ → List ℕ → Type 0) (status : ℕ) (left : Option (List ℕ)) (out : SinkChange)
     → ((bytes : List ℕ) → max_recording < length bytes → Refuses bytes (malformed_text max_recording)) → RefusesLength status left out
     → status ≢ 4 → OfInput left (λ all. EndsRecording Writes Refuses status all out)
@@ -263,6 +270,43 @@ length_ends Writes Refuses status left out long refuses =
 pub some_bytes : (left : Option (List ℕ)) (bytes : List ℕ) (P : List ℕ → Type 0) → IfSome left (λ all. bytes ≡ all) → IsSomeAnd left P → P bytes
 some_bytes None bytes P is holds = absurd holds
 some_bytes (Some all) bytes P is holds = subst P (sym is) holds
+
+-- there is a box for each add of the script, and room for its recording
+abbrev pub CanRun : ℕ → Limits → List ℕ → Type 0
+CanRun have limits script = IsOkAnd (script_of Plain script) (λ lines. (count_adds lines ≤ have) × IsUnstopped limits lines)
+
+-- a script that can be run is
+pub run_can : (report : Report) (left : Option (List ℕ)) (lines : List Line) (have : ℕ) (limits : Limits) (status : ℕ) (out : SinkChange)
+    → OfInput left (λ script. script_of Plain script ≡ Ok lines) → EndsLines report limits status have lines out → IsSomeAnd left (CanRun have limits)
+    → (status ≡ DONE) ⊎ (status ≡ NO_MEMORY) ⊎ (status ≡ SINK_FAILED)
+run_can report left lines have limits status out (bytes, is, read) ends can =
+    go ends.known (subst (λ (r : Result (List Line) ScriptFault). IsOkAnd r (λ lines. (count_adds lines ≤ have) × IsUnstopped limits lines)) read
+    (some_bytes left bytes (CanRun have limits) is can))
+  where
+    go : (status ≡ 0) ⊎ (status ≡ 3) ⊎ (status ≡ 5) ⊎ (status ≡ 6) ⊎ (status ≡ 8) → (count_adds lines ≤ have) × IsUnstopped limits lines
+        → (status ≡ DONE) ⊎ (status ≡ NO_MEMORY) ⊎ (status ≡ SINK_FAILED)
+    go (inl at) able = inl at
+    go (inr (inl at)) able = inr (inl at)
+    go (inr (inr (inl at))) able = inr (inr at)
+    go (inr (inr (inr (inl at)))) able =
+        let clash : false ≡ true = subst (λ (stop : Option Room). IsSome stop) able.1 (ends.full at).0 in
+        absurd (cc (clash))
+    go (inr (inr (inr (inr at)))) able = absurd (omega (arith, (ends.bank_short at).0, able.0))
+
+-- one that can be run isn't refused
+pub refused_can : (left : Option (List ℕ)) (status decided have : ℕ) (limits : Limits) (out : SinkChange) (Rises : Type 0) → status ≡ decided
+    → RefusesScript Plain decided left out → (decided ≡ 4 → Rises) → IsSomeAnd left (CanRun have limits) → (Rises → ⊥)
+    → (status ≡ DONE) ⊎ (status ≡ NO_MEMORY) ⊎ (status ≡ SINK_FAILED)
+refused_can left status decided have limits out Rises same refuses rises can sound = go refuses.known where
+  clash : (read : Result (List Line) ScriptFault) (P : List Line → Type 0) (Q : ScriptFault → Type 0) → IsOkAnd read P → IsErrAnd read Q → ⊥
+  clash (Ok lines) P Q ok err = err
+  clash (Err fault) P Q ok err = ok
+
+  go : (decided ≡ 1) ⊎ (decided ≡ 3) ⊎ (decided ≡ 4) → (status ≡ DONE) ⊎ (status ≡ NO_MEMORY) ⊎ (status ≡ SINK_FAILED)
+  go (inl one) = let refused = refuses.refused one in
+      absurd (clash (script_of Plain refused.0) _ _ (some_bytes left refused.0 (CanRun have limits) refused.1 can) refused.2)
+  go (inr (inl three)) = inr (inl (same ∙ three))
+  go (inr (inr four)) = absurd (sound (rises four))
 
 -- a run whose recording may have bytes enough can be done, so it is
 module _ (unstopped : (caps : Limits) (lines : List Line) → enough lines ≤ caps.recording → (plain caps lines).stop ≡ None)

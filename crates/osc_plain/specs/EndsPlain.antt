@@ -10,8 +10,7 @@ use Rattle.osc_replay.specs.Disagreeing.{IsRecordingOf}
 use Rattle.osc_replay.specs.Formed.{IsFormed}
 use Rattle.osc_replay.specs.Old.{IsOldRecordingOf}
 use Rattle.osc_replay.specs.Upgrading.{upgraded_text}
-use Rattle.osc_script.specs.declared.mode.Mode.TheVariants.{Plain}
-use Rattle.osc_script.specs.Scripts.{script_of}
+use Rattle.osc_script.specs.Scripts.{plain_script}
 use Rattle.osc_words.specs.declared.command.PlainCommand.{PlainCommand}
 use Rattle.osc_words.specs.declared.command.PlainCommand.TheVariants.{Read, Gen}
 use Rattle.osc_words.specs.declared.command.Reading.{Reading}
@@ -23,11 +22,14 @@ use Rattle.osc_script.specs.Adds.{count_adds}
 use Rattle.osc_ends.specs.declared.status.TheConstants.{NO_MEMORY}
 use Rattle.osc_ends.specs.Ends.{IsUnplayed}
 use Rattle.osc_ends.specs.CommandEnds.{IsCommandsEnd}
-use Rattle.osc_ends.specs.Recordings.{EndsDump, EndsReplay, EndsUpgrade}
-use Rattle.osc_ends.specs.Sinks.{SinkChange, sink_change}
+use Rattle.osc_ends.specs.Printing.{refusal_text}
+use Rattle.osc_ends.specs.Recordings.{EndsRecording, DumpsTo, RefusesForm, RefusesRecording}
+use Rattle.osc_ends.specs.Recordings.{RefusesUpgrade, ReplaysTo, UpgradesTo}
+use Rattle.osc_ends.specs.Inputs.{SourceOf}
+use Rattle.osc_ends.specs.Sinks.{SinkChange, SinkOf, change}
 use Rattle.osc_plain.specs.declared.report.Report.TheVariants.{Summary, Text}
 use Rattle.osc_plain.specs.Commands.{default_limits, drawn_lines, most_bytes, plain_limits}
-use Rattle.osc_plain.specs.Runs.{IsUnstopped, EndsOver, EndsRun, report_of}
+use Rattle.osc_plain.specs.Runs.{IsUnstopped, EndsOver, EndsRead, report_of}
 use Rattle.osc_plain.specs.Scores.{EndsPlayedScore, EndsScore}
 
 -- A command can be done with so many boxes and this input: a lawful script has a box for each add
@@ -35,7 +37,7 @@ use Rattle.osc_plain.specs.Scores.{EndsPlayedScore, EndsScore}
 -- address; a recording is that of a history which the server's rules give, for a dump a well-formed
 -- one, and for an upgrade one of the first version that isn't too large as one of today.
 abbrev pub CanBeRead : Reading → ℕ → List ℕ → Type 0
-CanBeRead (Run output caps) have script = IsOkAnd (script_of Plain script)
+CanBeRead (Run output caps) have script = IsOkAnd (plain_script script)
     (λ lines. (count_adds lines ≤ have) × IsUnstopped (plain_limits caps) lines)
 CanBeRead Replay have recording =
     (caps : Limits) × (history : List Entry) × IsRecordingOf recording caps history
@@ -65,24 +67,25 @@ module _ {M : Type 0} (keep : M → Fixed) (tells : M → Option (List ℕ)) (st
     (heard : List (ℕ × M)) (left : List M) where
   -- the end of a command that reads an input, and what becomes of the boxes
   abbrev pub EndsReading : Reading → List ℕ → SinkChange → Type 0
-  EndsReading (Run output caps) input out = EndsRun (EndsOver keep tells (report_of output)
-      (plain_limits caps) status bank heard left out) status input out
-  EndsReading Replay input out = EndsReplay status input out × HandsAllBack status bank heard left
-  EndsReading Dump input out = EndsDump status input out × HandsAllBack status bank heard left
-  EndsReading Upgrade input out = EndsUpgrade status input out × HandsAllBack status bank heard left
+  EndsReading (Run output caps) input out = EndsRead (plain_script input) refusal_text (EndsOver
+      keep tells (report_of output) (plain_limits caps) status bank heard left out) status out
+  EndsReading Replay input out = EndsRecording ReplaysTo RefusesRecording status input out
+      × HandsAllBack status bank heard left
+  EndsReading Dump input out = EndsRecording DumpsTo RefusesForm status input out
+      × HandsAllBack status bank heard left
+  EndsReading Upgrade input out = EndsRecording UpgradesTo RefusesUpgrade status input out
+      × HandsAllBack status bank heard left
   EndsReading Score input out = EndsScore status input out × HandsAllBack status bank heard left
   EndsReading PlayScore input out = EndsPlayedScore
       (EndsOver keep tells Text default_limits status bank heard left out) status input out
 
-module _ {S O M : Type 0} (to_read : S → Option (List ℕ)) (source_faults : S → ℕ)
-    (held : O → Option (List ℕ)) (sink_faults : O → ℕ) (keep : M → Fixed)
+module _ {S O M : Type 0} (source_of : SourceOf S) (sink_of : SinkOf O) (keep : M → Fixed)
     (tells : M → Option (List ℕ)) where
   -- the end of a command, and what becomes of the boxes
   abbrev pub EndsPlain : PlainCommand → ℕ → S → S → O → O → List M → List (ℕ × M) → List M → Type 0
   EndsPlain (Read reading) status source source_after out out_after bank heard left =
-      IsCommandsEnd to_read source_faults held sink_faults (most_bytes reading) status source
-      source_after out out_after (EndsReading keep tells status bank heard left reading)
-      (CanBeRead reading (length bank))
+      IsCommandsEnd source_of sink_of (most_bytes reading) status source source_after out out_after
+      (EndsReading keep tells status bank heard left reading) (CanBeRead reading (length bank))
   EndsPlain (Gen seed lines) status source source_after out out_after bank heard left =
       EndsOver keep tells Summary default_limits status bank heard left
-      (sink_change held sink_faults out out_after) (drawn_lines seed lines)
+      (change sink_of out out_after) (drawn_lines seed lines)

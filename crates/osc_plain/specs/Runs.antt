@@ -2,22 +2,19 @@
 use Rattle.osc_method.specs.Heard.{Fixed}
 use Rattle.osc_ends.specs.declared.status.TheConstants.{BANK_SHORT, DONE, NO_MEMORY, RECORDING_FULL}
 use Rattle.osc_ends.specs.declared.status.TheConstants.{REFUSED, SINK_FAILED}
-use Rattle.std.specs.Prelude.{◌≡◌, ◌≢◌, ◌⊎◌, ℕ, ◌≤◌, ◌<◌, List, ◌++◌, length, Option, None}
+use Rattle.std.specs.Prelude.{◌≡◌, ◌≢◌, ◌⊎◌, ℕ, ◌<◌, List, ◌++◌, length, Option, None, Result}
 use Rattle.std.specs.Prelude.{IsSome, IsOkAnd, IsErrAnd}
 use Rattle.osc_model.specs.Limits.{Limits}
 use Rattle.osc_model.specs.Recordings.{record_text}
-use Rattle.osc_model.specs.History.{Legal}
 use Rattle.osc_replay.specs.Counted.{summary as summary_text}
 use Rattle.osc_replay.specs.Disagreeing.{IsRecordingOf}
 use Rattle.osc_script.specs.declared.line.Line.{Line}
-use Rattle.osc_script.specs.declared.mode.Mode.TheVariants.{Plain}
 use Rattle.osc_script.specs.Adds.{count_adds}
-use Rattle.osc_script.specs.Scripts.{script_of}
 use Rattle.osc_words.specs.declared.command.Output.{Output}
 use Rattle.osc_words.specs.declared.command.Output.TheVariants as output
 use Rattle.osc_ends.specs.declared.outcome.Outcome.{Outcome}
 use Rattle.osc_ends.specs.Outcomes.{stopped}
-use Rattle.osc_ends.specs.Printing.{bank_short_text, last_text, recorded_text, refusal_text}
+use Rattle.osc_ends.specs.Printing.{bank_short_text, last_text, recorded_text}
 use Rattle.osc_ends.specs.Sinks.{SinkChange, GainsAll, GainsPart, GainsUnless}
 use Rattle.osc_player.specs.Bank.{IsAccounted}
 use Rattle.osc_player.specs.Plain.{plain, printed_faults}
@@ -27,10 +24,6 @@ use Rattle.osc_plain.specs.declared.report.Report.TheVariants.{Text, Recording, 
 -- a script was played, and recorded
 abbrev pub IsPlayed : ℕ → Type 0
 IsPlayed status = (status ≡ DONE) ⊎ (status ≡ SINK_FAILED) ⊎ (status ≡ RECORDING_FULL)
-
--- the history of a script's lines is one that the rules of a server with these limits give
-abbrev pub IsLegalRun : Limits → List Line → Type 0
-IsLegalRun caps lines = Legal caps (plain caps lines).history
 
 -- no event of the lines wants more room than is left
 abbrev pub IsUnstopped : Limits → List Line → Type 0
@@ -55,23 +48,20 @@ run_output Recording caps lines = record_text caps (plain caps lines).history
 run_output Summary caps lines =
     summary_text caps (plain caps lines).history ++ last_text (stopped (plain caps lines).stop)
 
--- The end of a run of lines over so many boxes, by its status: done (0), where there is a box for
--- each add, no event wanted more room than was left, the history is one that the server's rules
--- give, and what the run writes was gained; cut short (5), where the sink failed, and a front of
--- that was gained; full (6), as done, but where an event wanted more room; bank short (8), where
--- there are fewer boxes than adds, and the line on that was gained. Out of memory (3) promises
--- nothing.
+-- The end of a run of lines over so many boxes, by its status: done (0), where no event wanted more
+-- room than was left, and what the run writes was gained; cut short (5), where the sink failed, and
+-- a front of that was gained; full (6), as done, but where an event wanted more room; bank short
+-- (8), where there are fewer boxes than adds, and the line on that was gained. Out of memory (3)
+-- promises nothing.
 pub record EndsLines (report : Report) (caps : Limits) (status have : ℕ) (lines : List Line)
     (out : SinkChange) : Type 0 where
   pub known : (status ≡ DONE) ⊎ (status ≡ NO_MEMORY) ⊎ (status ≡ SINK_FAILED)
       ⊎ (status ≡ RECORDING_FULL) ⊎ (status ≡ BANK_SHORT)
-  pub done : status ≡ DONE → (count_adds lines ≤ have) × IsLegalRun caps lines
-      × IsUnstopped caps lines
-      × GainsAll out (run_output report caps lines)
-  pub cut_short : status ≡ SINK_FAILED → (count_adds lines ≤ have) × IsLegalRun caps lines
-      × GainsPart out (run_output report caps lines)
-  pub full : status ≡ RECORDING_FULL → (count_adds lines ≤ have) × IsLegalRun caps lines
-      × IsSome (plain caps lines).stop × GainsAll out (run_output report caps lines)
+  pub done : status ≡ DONE
+      → IsUnstopped caps lines × GainsAll out (run_output report caps lines)
+  pub cut_short : status ≡ SINK_FAILED → GainsPart out (run_output report caps lines)
+  pub full : status ≡ RECORDING_FULL
+      → IsSome (plain caps lines).stop × GainsAll out (run_output report caps lines)
   pub bank_short : status ≡ BANK_SHORT → (have < count_adds lines)
       × GainsUnless out (bank_short_text (count_adds lines) have)
 
@@ -82,15 +72,13 @@ EndsOver keep tells report caps status bank heard left out lines =
     EndsLines report caps status (length bank) lines out
     × (IsPlayed status → IsAccounted keep tells caps lines bank heard left)
 
--- The end of a run of a script, by its status: refused (1), where it has a first fault, and the
--- line on that fault was gained; else, but out of memory (3), the script is lawful, and the
--- end is that of a run of its lines.
-pub record EndsRun (Ends : List Line → Type 0) (status : ℕ) (script : List ℕ) (out : SinkChange)
-    : Type 0 where
-  pub refused : status ≡ REFUSED
-      → IsErrAnd (script_of Plain script) (λ fault. GainsUnless out (refusal_text fault))
-  pub lawful : status ≢ REFUSED → status ≢ NO_MEMORY
-      → IsOkAnd (script_of Plain script) Ends
+-- The end of a command that reads a script or a score, by its status: refused (1), where it has a
+-- first fault, and the line on that fault was gained; else, but out of memory (3), it is lawful,
+-- and this holds of what it says.
+pub record EndsRead {X F : Type 0} (read : Result X F) (line_on : F → List ℕ) (Ends : X → Type 0)
+    (status : ℕ) (out : SinkChange) : Type 0 where
+  pub refused : status ≡ REFUSED → IsErrAnd read (λ fault. GainsUnless out (line_on fault))
+  pub lawful : status ≢ REFUSED → status ≢ NO_MEMORY → IsOkAnd read Ends
 
 -- what was recorded of a run of lines: its recording, the lines of the faults, and how it ended
 pub record RecordsRun (bytes faults : List ℕ) (outcome : Outcome) (caps : Limits)
@@ -99,7 +87,7 @@ pub record RecordsRun (bytes faults : List ℕ) (outcome : Outcome) (caps : Limi
   pub said : faults ≡ printed_faults (plain caps lines).faults
   pub ended : outcome ≡ stopped (plain caps lines).stop
 
--- The end of writing what a run of lines came to: done (0) or full (6) where all was gained, cut
+-- The end of writing the result of a run of lines: done (0) or full (6) where all was gained, cut
 -- short (5) where the sink failed.
 pub record EndsPlayed (report : Report) (caps : Limits) (status : ℕ) (lines : List Line)
     (out : SinkChange) : Type 0 where

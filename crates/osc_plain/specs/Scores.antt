@@ -1,10 +1,10 @@
 -- How the commands end that read a score.
-use Rattle.osc_ends.specs.declared.status.TheConstants.{DONE, NO_MEMORY, RECORDING_FULL, REFUSED}
-use Rattle.std.specs.Prelude.{◌≡◌, ◌≢◌, ℕ, List, length, Ok, IsOkAnd, IsErrAnd}
+use Rattle.osc_ends.specs.declared.status.TheConstants.{DONE, RECORDING_FULL}
+use Rattle.std.specs.Prelude.{◌≡◌, ◌≢◌, ℕ, List, length, Ok}
 use Rattle.osc_script.specs.declared.line.Line.{Line}
 use Rattle.osc_script.specs.declared.mode.Mode.TheVariants.{Plain}
 use Rattle.osc_script.specs.Adds.{count_adds}
-use Rattle.osc_script.specs.Scripts.{script_of}
+use Rattle.osc_script.specs.Scripts.{plain_script, script_of}
 use Rattle.osc_score.specs.Scores.{Note, addresses_of}
 use Rattle.osc_score.specs.Scripted.{score_script}
 use Rattle.osc_score.specs.Plans.{Plan, plan_script}
@@ -12,22 +12,14 @@ use Rattle.osc_score.specs.Reading.{score_of}
 use Rattle.osc_score_laws.specs.Heard.{PlaysScore, score_lines}
 use Rattle.osc_ends.specs.Ends.{EndsText}
 use Rattle.osc_ends.specs.Printing.{score_fault_text}
-use Rattle.osc_ends.specs.Sinks.{SinkChange, GainsUnless}
+use Rattle.osc_ends.specs.Sinks.{SinkChange}
 use Rattle.osc_plain.specs.Commands.{default_limits}
+use Rattle.osc_plain.specs.Runs.{EndsRead}
 
--- the script of the notes is lawful, and has these lines
-abbrev pub IsScriptOf : List Note → Type 0
-IsScriptOf notes = script_of Plain (score_script notes) ≡ Ok (score_lines notes)
-
--- The end of a command that reads a score, by its status: refused (1), where it has a first fault,
--- and the line on that fault was gained; else, but out of memory (3), it is one, whose script
--- is lawful, and this holds of its notes.
-pub record EndsNotes (Ends : List Note → Type 0) (status : ℕ) (score : List ℕ) (out : SinkChange)
-    : Type 0 where
-  pub refused : status ≡ REFUSED
-      → IsErrAnd (score_of score) (λ fault. GainsUnless out (score_fault_text fault))
-  pub lawful : status ≢ REFUSED → status ≢ NO_MEMORY
-      → IsOkAnd (score_of score) (λ notes. IsScriptOf notes × Ends notes)
+-- the end of a command that reads a score, whose script is lawful, and has the lines that play it
+abbrev pub EndsNotes : (List Note → Type 0) → ℕ → List ℕ → SinkChange → Type 0
+EndsNotes Ends status score out = EndsRead (score_of score) score_fault_text
+    (λ notes. (plain_script (score_script notes) ≡ Ok (score_lines notes)) × Ends notes) status out
 
 -- its script is written, or a front of it where the sink failed
 abbrev pub EndsScore : ℕ → List ℕ → SinkChange → Type 0

@@ -1,4 +1,4 @@
-// Writes what a run came to.
+// Writes the result of a run.
 ghost use Rattle.std.specs.Prelude.{◌≡◌, ◌++◌, List, IfOk};
 ghost use Rattle.osc_model.specs.Limits.{Limits};
 ghost use Rattle.osc_model.specs.Events.{Entry};
@@ -8,7 +8,7 @@ ghost use Rattle.osc_script.specs.declared.line.Line.{Line};
 ghost use Rattle.osc_ends.specs.Ends.{EndsText};
 ghost use Rattle.osc_ends.specs.Outcomes as outcomes;
 ghost use Rattle.osc_ends.specs.Printing.{last_text};
-ghost use Rattle.osc_ends.specs.Sinks.{sink_change};
+ghost use Rattle.osc_ends.specs.Sinks.{change};
 ghost use Rattle.osc_plain.specs.Runs.{EndsPlayed, RecordsRun};
 
 use crate::report::Report;
@@ -19,7 +19,7 @@ use osc_print::Text;
 use osc_replay::summary;
 use std::alloc::{AllocError, Global};
 
-/// Writes what a script came to.
+/// Writes the result of a script.
 pub(crate) fn write_recorded<O: Sink>(
     alloc: Global,
     report: Report,
@@ -32,7 +32,7 @@ pub(crate) fn write_recorded<O: Sink>(
     ensures { (caps : Limits) (lines : List Line)
         → RecordsRun recorded.now.bytes.items recorded.now.faults
         recorded.now.outcome caps lines →
-        EndsPlayed report caps result lines (sink_change O.held O.faults out.old out.new) }
+        EndsPlayed report caps result lines (change O.Sink out.old out.new) }
 {
     match report {
         Report::Recording => write_text(status_of(recorded.outcome), &recorded.bytes, out),
@@ -49,7 +49,7 @@ fn write_summary<O: Sink>(alloc: Global, recorded: &Recorded, out: &mut O) -> u8
         → IsRecordingOf recorded.now.bytes.items caps history →
         EndsText (outcomes.status_of recorded.now.outcome) result
         (counts.summary caps history ++ last_text recorded.now.outcome)
-        (sink_change O.held O.faults out.old out.new) }
+        (change O.Sink out.old out.new) }
 {
     match summary_text(alloc, recorded) {
         Ok(text) => write_text(status_of(recorded.outcome), text.bytes(), out),

@@ -8,7 +8,15 @@ ghost use Rattle.osc_replay.specs.Formed.{IsFormed};
 ghost use Rattle.osc_replay.specs.Old.{IsOldRecordingOf};
 ghost use Rattle.osc_replay.specs.Upgrading.{upgraded_text};
 ghost use Rattle.osc_ends.specs.CommandEnds.{IsCommandsEnd};
-ghost use Rattle.osc_ends.specs.Recordings.{EndsDump, EndsReplay, EndsUpgrade};
+ghost use Rattle.osc_ends.specs.Recordings.{
+  EndsRecording,
+  DumpsTo,
+  RefusesForm,
+  RefusesRecording,
+  RefusesUpgrade,
+  ReplaysTo,
+  UpgradesTo,
+};
 
 use osc_edge::{Sink, Source};
 use osc_ends::{read_recording, write_dump, write_replay, write_upgrade};
@@ -16,9 +24,10 @@ use std::alloc::Global;
 
 /// Replays the recording that the input is.
 pub(crate) fn replay<S: Source, O: Sink>(alloc: Global, input: &mut S, out: &mut O) -> u8
-    ensures end { IsCommandsEnd S.left S.faults O.held O.faults max_recording result input.old
-        input.new out.old out.new (EndsReplay result) (λ recording. (caps : Limits)
-        × (history : List Entry) × IsRecordingOf recording caps history) }
+    ensures end { IsCommandsEnd S.Source O.Sink max_recording result input.old input.new
+        out.old out.new (EndsRecording ReplaysTo RefusesRecording result)
+        (λ recording. (caps : Limits) × (history : List Entry)
+        × IsRecordingOf recording caps history) }
 {
     osc_model::laws::a_legal_history_is_recordable();
     match read_recording(alloc, input, out) {
@@ -29,9 +38,9 @@ pub(crate) fn replay<S: Source, O: Sink>(alloc: Global, input: &mut S, out: &mut
 
 /// Dumps the recording that the input is.
 pub(crate) fn dump<S: Source, O: Sink>(alloc: Global, input: &mut S, out: &mut O) -> u8
-    ensures end { IsCommandsEnd S.left S.faults O.held O.faults max_recording result input.old
-        input.new out.old out.new (EndsDump result) (λ recording. (caps : Limits)
-        × (entries : List Entry) × IsFormed caps entries
+    ensures end { IsCommandsEnd S.Source O.Sink max_recording result input.old input.new
+        out.old out.new (EndsRecording DumpsTo RefusesForm result)
+        (λ recording. (caps : Limits) × (entries : List Entry) × IsFormed caps entries
         × (recording ≡ record_text caps entries)) }
 {
     osc_model::laws::a_legal_history_is_recordable();
@@ -43,9 +52,10 @@ pub(crate) fn dump<S: Source, O: Sink>(alloc: Global, input: &mut S, out: &mut O
 
 /// Upgrades the recording of the first version that the input is.
 pub(crate) fn upgrade<S: Source, O: Sink>(alloc: Global, input: &mut S, out: &mut O) -> u8
-    ensures end { IsCommandsEnd S.left S.faults O.held O.faults max_recording result input.old
-        input.new out.old out.new (EndsUpgrade result) (λ recording. (caps : Limits)
-        × (history : List Entry) × IsOldRecordingOf recording caps history
+    ensures end { IsCommandsEnd S.Source O.Sink max_recording result input.old input.new
+        out.old out.new (EndsRecording UpgradesTo RefusesUpgrade result)
+        (λ recording. (caps : Limits) × (history : List Entry)
+        × IsOldRecordingOf recording caps history
         × (length (upgraded_text max_recording caps history) ≤ max_recording)) }
 {
     match read_recording(alloc, input, out) {

@@ -5,14 +5,14 @@ ghost use Rattle.std.specs.Option.{option_map};
 ghost use Rattle.osc_model.specs.Limits.{Limits};
 ghost use Rattle.osc_record.specs.Shown.{room_of};
 ghost use Rattle.osc_script.specs.declared.line.Line.{Line};
-ghost use Rattle.osc_script.specs.declared.mode.Mode.TheVariants.{Plain};
 ghost use Rattle.osc_script.specs.Adds.{count_adds};
-ghost use Rattle.osc_script.specs.Scripts.{script_of};
+ghost use Rattle.osc_script.specs.Scripts.{plain_script};
 ghost use Rattle.osc_ends.specs.CommandEnds.{IsCommandsEnd};
-ghost use Rattle.osc_ends.specs.Sinks.{sink_change};
+ghost use Rattle.osc_ends.specs.Printing.{refusal_text};
+ghost use Rattle.osc_ends.specs.Sinks.{change};
 ghost use Rattle.osc_player.specs.Runs.{IsRunOf};
 ghost use Rattle.osc_plain.specs.EndsPlain.{HandsBack};
-ghost use Rattle.osc_plain.specs.Runs.{EndsOver, EndsPlayed, EndsRun, IsUnstopped};
+ghost use Rattle.osc_plain.specs.Runs.{EndsOver, EndsPlayed, EndsRead, IsUnstopped};
 
 use crate::outputs::write_recorded;
 use crate::report::Report;
@@ -34,12 +34,12 @@ pub(crate) fn run<S: Source, O: Sink>(
     out: &mut O,
     bank: Vec<Box<dyn Method + Send>>,
 ) -> Ended
-    ensures end { IsCommandsEnd S.left S.faults O.held O.faults MAX_SCRIPT result.status input.old
-        input.new out.old out.new
-        (λ script sink. EndsRun (EndsOver (λ box. keep box) (λ box. heard box) report caps
-        result.status bank.items result.heard.items result.left.items sink) result.status script
-        sink)
-        (λ script. IsOkAnd (script_of Plain script)
+    ensures end { IsCommandsEnd S.Source O.Sink MAX_SCRIPT result.status input.old input.new
+        out.old out.new
+        (λ script sink. EndsRead (plain_script script) refusal_text (EndsOver (λ box. keep box)
+        (λ box. heard box) report caps result.status bank.items result.heard.items
+        result.left.items sink) result.status sink)
+        (λ script. IsOkAnd (plain_script script)
         (λ lines. (count_adds lines ≤ length bank.items) × IsUnstopped caps lines)) }
     ensures back { HandsBack result.status bank.items result.heard.items result.left.items }
 {
@@ -60,7 +60,7 @@ pub(crate) fn run_lines<O: Sink>(
 ) -> Ended
     ensures ends { EndsOver (λ box. keep box) (λ box. heard box) report caps result.status
         bank.items result.heard.items result.left.items
-        (sink_change O.held O.faults out.old out.new) lines.items }
+        (change O.Sink out.old out.new) lines.items }
     ensures back { HandsBack result.status bank.items result.heard.items result.left.items }
 {
     let need = count_adds(&lines);
@@ -85,8 +85,7 @@ fn end<O: Sink>(
         × IsRunOf played.bytes.items played.faults (option_map room_of played.stop) caps lines }
     ensures ends { (caps : Limits) (lines : List Line)
         → IsRunOf played.bytes.items played.faults (option_map room_of played.stop) caps lines
-        → EndsPlayed report caps result.status lines
-        (sink_change O.held O.faults out.old out.new) }
+        → EndsPlayed report caps result.status lines (change O.Sink out.old out.new) }
     ensures heard { result.heard.items ≡ played.heard.items }
     ensures left { result.left.items ≡ played.left.items }
 {

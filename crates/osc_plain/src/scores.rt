@@ -8,7 +8,7 @@ ghost use Rattle.osc_score.specs.Scores.{addresses_of};
 ghost use Rattle.osc_script.specs.declared.line.Line.{Line};
 ghost use Rattle.osc_ends.specs.CommandEnds.{IsCommandsEnd};
 ghost use Rattle.osc_ends.specs.Ends.{EndsText};
-ghost use Rattle.osc_ends.specs.Sinks.{sink_change};
+ghost use Rattle.osc_ends.specs.Sinks.{change};
 ghost use Rattle.osc_plain.specs.Commands as commands;
 ghost use Rattle.osc_plain.specs.EndsPlain.{HandsBack};
 ghost use Rattle.osc_plain.specs.declared.report.Report.TheVariants.{Text};
@@ -29,7 +29,7 @@ use std::alloc::{AllocError, Global};
 
 /// Writes the script of the score that the input is.
 pub(crate) fn write_score<S: Source, O: Sink>(alloc: Global, input: &mut S, out: &mut O) -> u8
-    ensures end { IsCommandsEnd S.left S.faults O.held O.faults MAX_SCORE result input.old input.new
+    ensures end { IsCommandsEnd S.Source O.Sink MAX_SCORE result input.old input.new
         out.old out.new (EndsScore result) (λ score. IsOk (score_of score)) }
 {
     osc_score::laws::what_is_kept_plays_the_score();
@@ -43,8 +43,7 @@ pub(crate) fn write_score<S: Source, O: Sink>(alloc: Global, input: &mut S, out:
 
 /// Writes the script of the score.
 fn write_script<O: Sink>(score: &Score, out: &mut O) -> u8
-    ensures { EndsText DONE result (plan_script score.now)
-        (sink_change O.held O.faults out.old out.new) }
+    ensures { EndsText DONE result (plan_script score.now) (change O.Sink out.old out.new) }
 {
     match score.script() {
         Ok(script) => write_text(DONE, script.as_slice(), out),
@@ -59,8 +58,8 @@ pub(crate) fn play_score<S: Source, O: Sink>(
     out: &mut O,
     bank: Vec<Box<dyn Method + Send>>,
 ) -> Ended
-    ensures end { IsCommandsEnd S.left S.faults O.held O.faults MAX_SCORE result.status input.old
-        input.new out.old out.new
+    ensures end { IsCommandsEnd S.Source O.Sink MAX_SCORE result.status input.old input.new
+        out.old out.new
         (λ score sink. EndsPlayedScore (EndsOver (λ box. keep box) (λ box. heard box) Text
         commands.default_limits result.status bank.items result.heard.items result.left.items
         sink) result.status score sink)
@@ -90,7 +89,7 @@ fn play_script<O: Sink>(
     ensures ends { (lines : List Line) → IsScriptWith score.now lines
         → EndsOver (λ box. keep box) (λ box. heard box) Text commands.default_limits
         result.status bank.items result.heard.items result.left.items
-        (sink_change O.held O.faults out.old out.new) lines }
+        (change O.Sink out.old out.new) lines }
     ensures back { HandsBack result.status bank.items result.heard.items result.left.items }
 {
     match script_lines(alloc, score) {

@@ -32,11 +32,10 @@ ghost use Rattle.osc_words.specs.Commands as said;
 ghost use Rattle.osc_words.specs.Ranges.{IsLawfulReading};
 ghost use Rattle.osc_ends.specs.Ends.{IsUnplayed};
 ghost use Rattle.osc_ends.specs.Printing.{usage_text};
-ghost use Rattle.osc_ends.specs.Sinks.{sink_change, Fails, GainsUnless};
+ghost use Rattle.osc_ends.specs.Sinks.{change, Fails, GainsUnless};
 ghost use Rattle.osc_player.specs.Enough.{enough};
-ghost use Rattle.osc_script.specs.declared.mode.Mode.TheVariants.{Plain};
 ghost use Rattle.osc_script.specs.Adds.{count_adds};
-ghost use Rattle.osc_script.specs.Scripts.{script_of};
+ghost use Rattle.osc_script.specs.Scripts.{plain_script};
 ghost use Rattle.osc_plain.specs.declared.report.Report.TheVariants.{Summary};
 ghost use Rattle.osc_plain.specs.Commands as commands;
 ghost use Rattle.osc_plain.specs.Runs.{EndsOver};
@@ -55,16 +54,18 @@ use osc_method::Method;
 use osc_words::{PlainCommand, Reading, plain_command_of};
 use std::alloc::Global;
 
-/// Does all that the program does. `run` reads a script from `input` to its end, plays it on a new server, and writes
-/// the printed history and the faults of its packets to `out`, or with `--bytes` the recording. `replay` reads a
-/// recording, and writes the same printed history, each answer of which it computes again. `dump` reads a recording,
-/// and writes its entries as they stand. `upgrade` reads a recording of the first version, and writes it as one of
-/// today. `score` reads a score, and writes its script, or with `--play` plays that as `run` does. `gen` reads
-/// nothing: it draws a script from a seed, plays it, and writes how many entries of each kind there are.
+/// Does all that the program does. `run` reads a script from `input` to its end, plays it on a new
+/// server, and writes the printed history and the faults of its packets to `out`, or with `--bytes`
+/// the recording. `replay` reads a recording, and writes the same printed history, each answer of
+/// which it computes again. `dump` reads a recording, and writes its entries as they stand.
+/// `upgrade` reads a recording of the first version, and writes it as one of today. `score` reads a
+/// score, and writes its script, or with `--play` plays that as `run` does. `gen` reads nothing: it
+/// draws a script from a seed, plays it, and writes how many entries of each kind there are.
 ///
-/// `words` are those of the command line, without the program's name. The k-th add of a script gets the k-th box of
-/// `bank`. Scripts, recordings, printed lines and statuses are those of docs/FORMATS.md. What stands in `out`, and what
-/// becomes of the boxes, when out of memory isn't said.
+/// `words` are those of the command line, without the program's name. The k-th add of a script gets
+/// the k-th box of `bank`. Scripts, recordings, printed lines and statuses are those of
+/// docs/FORMATS.md. What stands in `out`, and what becomes of the boxes, when out of memory isn't
+/// said.
 pub fn plain_top<S: Source, O: Sink>(
     alloc: Global,
     words: &[String],
@@ -82,15 +83,16 @@ pub fn plain_top<S: Source, O: Sink>(
     ensures unread { said.reading_of (map string_bytes words.now) ≡ None
         → input.new ≡ input.old }
     ensures usage_text { result.status ≡ USAGE
-        → GainsUnless (sink_change O.held O.faults out.old out.new) usage_text }
+        → GainsUnless (change O.Sink out.old out.new) usage_text }
 
-    // Then the command is done, as far as its edges go: a source that failed, of which nothing is written; or a script
-    // or a recording that is refused, or a script that adds more methods than there are boxes, or what the command
-    // writes, with a sink that took all of it or failed. Each box that was added has heard what the history says, which
-    // keeps the four laws, and each other one comes back as it was. What can be done is done over edges that don't
-    // fail, unless memory runs out.
+    // Then the command is done, as far as its edges go: a source that failed, of which nothing is
+    // written; or a script or a recording that is refused, or a script that adds more methods than
+    // there are boxes, or what the command writes, with a sink that took all of it or failed. Each
+    // box that was added has heard what the history says, which keeps the four laws, and each other
+    // one comes back as it was. What can be done is done over edges that don't fail, unless memory
+    // runs out.
     ensures command { IfSome (said.plain_command_of (map string_bytes words.now))
-        (λ command. EndsPlain S.left S.faults O.held O.faults (λ box. keep box) (λ box. heard box)
+        (λ command. EndsPlain S.Source O.Sink (λ box. keep box) (λ box. heard box)
         command result.status input.old input.new out.old out.new bank.items result.heard.items
         result.left.items) }
 
@@ -102,10 +104,10 @@ pub fn plain_top<S: Source, O: Sink>(
     // No run is stopped where the recording may have as many bytes as `enough` says.
     ensures enough { (output : Output) (caps : Capacities)
         → said.plain_command_of (map string_bytes words.now) ≡ Some (Read (Run output caps))
-        → IfSome (S.left input.old) (λ script. IsOkAnd (script_of Plain script)
+        → IfSome (S.left input.old) (λ script. IsOkAnd (plain_script script)
         (λ lines. (count_adds lines ≤ length bank.items) × (enough lines ≤ caps.recording))
         → ¬ Rose (S.faults input.old) (S.faults input.new)
-        → ¬ Fails (sink_change O.held O.faults out.old out.new) →
+        → ¬ Fails (change O.Sink out.old out.new) →
         (result.status ≡ DONE) ⊎ (result.status ≡ NO_MEMORY)) }
 {
     osc_player::laws::enough_room_never_stops();
@@ -126,9 +128,9 @@ fn follow<S: Source, O: Sink>(
     bank: Vec<Box<dyn Method + Send>>,
 ) -> Ended
     requires range { IsLawfulReading reading }
-    ensures end { EndsPlain S.left S.faults O.held O.faults (λ box. keep box) (λ box. heard box)
-        (Read reading) result.status input.old input.new out.old out.new bank.items
-        result.heard.items result.left.items }
+    ensures end { EndsPlain S.Source O.Sink (λ box. keep box) (λ box. heard box) (Read reading)
+        result.status input.old input.new out.old out.new bank.items result.heard.items
+        result.left.items }
     ensures back { HandsBack result.status bank.items result.heard.items result.left.items }
 {
     match reading {
@@ -161,7 +163,7 @@ fn generate<O: Sink>(
     requires { lines ≤ MAX_GENERATED_LINES }
     ensures ends { EndsOver (λ box. keep box) (λ box. heard box) Summary commands.default_limits
         result.status bank.items result.heard.items result.left.items
-        (sink_change O.held O.faults out.old out.new) (commands.drawn_lines seed lines) }
+        (change O.Sink out.old out.new) (commands.drawn_lines seed lines) }
     ensures back { HandsBack result.status bank.items result.heard.items result.left.items }
 {
     match drawn_lines(alloc, seed, lines) {

@@ -1,6 +1,6 @@
 //! The top call of a stage.
 ghost use Rattle.std.specs.Prelude.{◌≡◌, ◌≢◌, ◌⊎◌, ◌+◌, ◌<◌, ◌≤◌, List, length, IfOk};
-ghost use Rattle.osc_ends.specs.Sinks.{sink_change};
+ghost use Rattle.osc_ends.specs.Sinks.{change};
 ghost use Rattle.osc_growing.specs.Growing.{HasGrown, IsWithin};
 ghost use Rattle.osc_lanes.specs.Performs.{part_of, IsWhole};
 ghost use Rattle.osc_links.specs.Ticks.{clock_read};
@@ -51,8 +51,7 @@ pub fn stage_top<
 
     // One history: its laws, its recording, where each relay stands, and what it has heard and sent.
     ensures one_history { IfOk result (λ staged. RecordsStage ⟦<Relay<O> as Method>⟧.keep
-        ⟦<Relay<O> as Method>⟧.heard O.sent O.losses stage staged
-        (sink_change R.held R.faults rec.old rec.new)) }
+        ⟦<Relay<O> as Method>⟧.heard O.sent O.losses stage staged (change R.Sink rec.old rec.new)) }
 
     // The same history by its callers: the opening, each link's datagrams, and the ticker's rounds.
     ensures staged { IfOk result (λ staged. IsStaged ⟦<Relay<O> as Method>⟧.keep
@@ -62,7 +61,7 @@ pub fn stage_top<
     // Done means that nothing failed, and each failure that a count of faults rose.
     ensures cause { IfOk result (λ staged. HasCause L.faults staged.ended stage.links.from.items
         staged.links.items (clock_read C.left C.faults clock.old clock.new)
-        (sink_change R.held R.faults rec.old rec.new)) }
+        (change R.Sink rec.old rec.new)) }
 {
     crate::laws::what_was_sent_is_what_the_history_called();
     osc_model::laws::a_legal_history_is_recordable();
@@ -91,10 +90,8 @@ fn settle<O: Outlet, L: Drop, R: Sink>(
     ensures ended { IfOk result
         (λ staged. (staged.ended ≡ end_of hosted) ⊎ (staged.ended ≡ Ended.SinkFailed)) }
     ensures written { IfOk result (λ staged. (start : R)
-        → HasGrown hosted.growth (sink_change R.held R.faults start rec.old)
-        hosted.closed.bytes.items
-        → HasWritten staged.ended (sink_change R.held R.faults start rec.new)
-        hosted.closed.bytes.items) }
+        → HasGrown hosted.growth (change R.Sink start rec.old) hosted.closed.bytes.items
+        → HasWritten staged.ended (change R.Sink start rec.new) hosted.closed.bytes.items) }
 {
     let Hosted {
         closed,
@@ -131,8 +128,8 @@ fn write_end<R: Sink>(
     ensures ended { IfOk result
         (λ ended. (ended ≡ played) ⊎ (ended ≡ Ended.SinkFailed)) }
     ensures written { IfOk result (λ ended. (start : R)
-        → HasGrown growth (sink_change R.held R.faults start rec.old) recording.now
-        → HasWritten ended (sink_change R.held R.faults start rec.new) recording.now) }
+        → HasGrown growth (change R.Sink start rec.old) recording.now
+        → HasWritten ended (change R.Sink start rec.new) recording.now) }
 {
     match write_rest(recording, growth, rec) {
         DONE => Ok(played),

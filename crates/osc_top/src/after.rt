@@ -20,7 +20,7 @@ ghost use Rattle.osc_model.specs.Limits.{Limits, header_size, max_recording};
 ghost use Rattle.osc_script.specs.declared.mode.Mode.TheVariants.{Lanes};
 ghost use Rattle.osc_script.specs.Scripts.{AreOf, script_of};
 ghost use Rattle.osc_live.specs.Resuming.{roomier};
-ghost use Rattle.osc_ends.specs.Sinks.{sink_change, Fails};
+ghost use Rattle.osc_ends.specs.Sinks.{change, Fails};
 ghost use Rattle.osc_top.specs.After.{CanGoOn, HandsBackAll, Reaches, boxes_told, callers_told};
 ghost use Rattle.osc_top.specs.EndsResumed.{EndsResumed, IsUnresumed};
 ghost use Rattle.osc_top.specs.Resumed.{PlaysResumed};
@@ -65,12 +65,11 @@ pub(crate) fn play_after<O: Sink, R: Sink, W: Threads + Wait + Sync, G: Gate + S
         → EndsResumed (λ caps before lines. PlaysResumed (λ box. keep box) (λ box. heard box)
         (roomier caps room) before bank.items result.heard.items result.left.items lines)
         result.status taken.entry.past script (length bank.items)
-        (sink_change R.held R.faults rec.old rec.new)
-        (sink_change O.held O.faults out.old out.new) }
+        (change R.Sink rec.old rec.new) (change O.Sink out.old out.new) }
     ensures back { HandsBackAll result.status bank.items result.heard.items result.left.items }
     ensures unrecorded { IsUnresumed result.status → rec.new ≡ rec.old }
     ensures sink { result.status ≡ SINK_FAILED
-        → Fails (sink_change O.held O.faults out.old out.new) ⊎ (out.new ≡ out.old) }
+        → Fails (change O.Sink out.old out.new) ⊎ (out.new ≡ out.old) }
 {
     osc_model::laws::a_server_stays_sound();
     osc_model::laws::callers_are_counted();
@@ -97,7 +96,7 @@ fn refuse_short<O: Sink>(
     requires few { (boxes_told checked lines.now < 2 ^ 64)
         × (callers_told checked lines.now < 2 ^ 64) }
     ensures reaches { Reaches result checked lines.now boxes
-        (sink_change O.held O.faults out.old out.new) }
+        (change O.Sink out.old out.new) }
     ensures unwritten { result ≡ None → out.new ≡ out.old }
     ensures decided { IfSome result (λ status. status ≢ SINK_FAILED) }
 {

@@ -23,7 +23,7 @@ ghost use Rattle.osc_script.specs.Scripts.{AreOf};
 ghost use Rattle.osc_ends.specs.Ends.{left_behind};
 ghost use Rattle.osc_ends.specs.Inputs.{read_status};
 ghost use Rattle.osc_ends.specs.Judging.{Empties, IsAll, IsReadOf};
-ghost use Rattle.osc_ends.specs.Sinks.{sink_change};
+ghost use Rattle.osc_ends.specs.Sinks.{change};
 ghost use Rattle.osc_top.specs.Taken.{OfInputs, TakesIn};
 
 use osc_edge::{Sink, Source};
@@ -83,7 +83,7 @@ pub(crate) fn judge_both<'a, O: Sink>(
     requires { (bytes : List ℕ) × IsReadOf max_recording past.now bytes }
     ensures taken { (bytes : List ℕ) (text : List ℕ) → IsReadOf max_recording past.now bytes
         → IsReadOf MAX_SCRIPT script text
-        → TakesIn result bytes text (sink_change O.held O.faults out.old out.new) }
+        → TakesIn result bytes text (change O.Sink out.old out.new) }
     ensures known { IfErr result (λ status. (status ≡ REFUSED) ⊎ (status ≡ NO_MEMORY)) }
     ensures fitting { IfOk result (λ taken. AreOf Lanes taken.lines.items) }
     ensures whole { IfOk result (λ taken. IsAll past.now × IsAll script) }

@@ -5,7 +5,7 @@ ghost use Rattle.std.specs.Prelude.{◌≡◌, ◌++◌, ◌≤◌, ◌<◌, len
 ghost use Rattle.std.specs.Option.{option_map, option_or};
 ghost use Rattle.std.specs.List.Sorted.{IsPermutation, IsNonDecreasingBy};
 ghost use Rattle.osc_record.specs.Shown.{room_of};
-ghost use Rattle.osc_ends.specs.Sinks.{sink_change};
+ghost use Rattle.osc_ends.specs.Sinks.{change};
 ghost use Rattle.osc_growing.specs.Growing.{HasGrown};
 ghost use Rattle.osc_links.specs.Ticks.{clock_read};
 ghost use Rattle.osc_script.specs.Adds.{count_adds};
@@ -63,7 +63,7 @@ pub(crate) fn stage_links<
         caps staged.0.recorded.bytes.items staged.0.recorded.faults
         staged.0.recorded.outcome) }
     ensures grown { IfOk result (λ staged. HasGrown staged.2
-        (sink_change R.held R.faults rec.old rec.new) staged.0.recorded.bytes.items) }
+        (change R.Sink rec.old rec.new) staged.0.recorded.bytes.items) }
 {
     let rest = bank.split_off(count_adds(&lines))?;
     let host = HostPart {

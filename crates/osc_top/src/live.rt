@@ -61,7 +61,7 @@ ghost use Rattle.osc_ends.specs.Outcomes.{status_of};
 ghost use Rattle.osc_growing.specs.Growing.{HasGrown, IsWithin};
 ghost use Rattle.osc_top.specs.Recorded.{EndsBoth};
 ghost use Rattle.osc_ends.specs.Printing.{recorded_text};
-ghost use Rattle.osc_ends.specs.Sinks.{sink_change, Fails, IsSteady, GainsUnless};
+ghost use Rattle.osc_ends.specs.Sinks.{change, Fails, IsSteady, GainsUnless};
 
 use crate::caps::live_limits;
 use crate::lanes::stage;
@@ -125,7 +125,7 @@ pub fn live_top<
     ensures unread { said.live_command_of (map string_bytes words.now) ≡ None
         → input.new ≡ input.old }
     ensures usage_text { result.0.status ≡ USAGE
-        → GainsUnless (sink_change O.held O.faults out.old out.new) usage_text }
+        → GainsUnless (change O.Sink out.old out.new) usage_text }
 
     // Then a source that failed, of which nothing is written. Any other answer but out of memory means that the
     // source didn't fail, and that it was read to its end, or to the first byte that is too many.
@@ -147,8 +147,7 @@ pub fn live_top<
         × EndsCommand (λ box. keep box) (λ box. heard box) L.left L.faults command
         result.0.status script bank.items result.0.heard.items result.0.left.items links.items
         result.1.items (clock_read C.left C.faults clock.old clock.new)
-        (sink_change R.held R.faults rec.old rec.new)
-        (sink_change O.held O.faults out.old out.new)) }
+        (change R.Sink rec.old rec.new) (change O.Sink out.old out.new)) }
 
     // Where all was written, there is one history, which the boxes have heard, and `osc replay` prints from its
     // recording what begins the text.
@@ -156,16 +155,15 @@ pub fn live_top<
         (λ command. IsWritten result.0.status →
         RecordsHistory (λ box. keep box) (λ box. heard box)
         (commands.live_limits (commands.capacities_of command)) result.0.heard.items
-        (sink_change R.held R.faults rec.old rec.new)
-        (sink_change O.held O.faults out.old out.new)) }
+        (change R.Sink rec.old rec.new) (change O.Sink out.old out.new)) }
     ensures edge { result.0.status ≡ EDGE_FAILED → TellsEdge L.faults links.items
         result.1.items (clock_read C.left C.faults clock.old clock.new)
-        (sink_change O.held O.faults out.old out.new) }
+        (change O.Sink out.old out.new) }
 
     // Where the sink of the recording failed, nothing was done with the other.
     ensures sink { result.0.status ≡ SINK_FAILED
-        → Fails (sink_change O.held O.faults out.old out.new)
-        ⊎ (Fails (sink_change R.held R.faults rec.old rec.new) × (out.new ≡ out.old)) }
+        → Fails (change O.Sink out.old out.new)
+        ⊎ (Fails (change R.Sink rec.old rec.new) × (out.new ≡ out.old)) }
     ensures unrecorded { IsUnplayed result.0.status → rec.new ≡ rec.old }
     ensures unserved { IsUnplayed result.0.status
         → (result.1.items ≡ links.items) × (clock.new ≡ clock.old) }
@@ -178,13 +176,12 @@ pub fn live_top<
     ensures listed { (caps : Capacities)
         → said.live_command_of (map string_bytes words.now) ≡ Some (live.Lanes caps true)
         → IsWritten result.0.status → EndsListed result.0.status (commands.live_limits caps)
-        (sink_change R.held R.faults rec.old rec.new)
-        (sink_change O.held O.faults out.old out.new) }
+        (change R.Sink rec.old rec.new) (change O.Sink out.old out.new) }
 
     // Done means that nothing failed and that the input was read to its end.
     ensures steady { result.0.status ≡ DONE
-        → IsSteady (sink_change O.held O.faults out.old out.new)
-        × IsSteady (sink_change R.held R.faults rec.old rec.new) }
+        → IsSteady (change O.Sink out.old out.new)
+        × IsSteady (change R.Sink rec.old rec.new) }
     ensures still { result.0.status ≡ DONE
         → (map L.faults result.1.items ≡ map L.faults links.items)
         × (C.faults clock.new ≡ C.faults clock.old) }
@@ -202,8 +199,8 @@ pub fn live_top<
         (λ script. IsOkAnd (script_of (mode_of command) script)
         (λ lines. count_adds lines ≤ length bank.items)
         → ¬ Rose (S.faults input.old) (S.faults input.new)
-        → ¬ Fails (sink_change O.held O.faults out.old out.new)
-        → ¬ Fails (sink_change R.held R.faults rec.old rec.new)
+        → ¬ Fails (change O.Sink out.old out.new)
+        → ¬ Fails (change R.Sink rec.old rec.new)
         → MayEnd command result.0.status)) }
 
     // No lane stops where the recording may have as many bytes as `enough_lanes` says.
@@ -212,8 +209,8 @@ pub fn live_top<
         → IfSome (S.left input.old) (λ script. IsOkAnd (script_of Lanes script)
         (λ lines. (count_adds lines ≤ length bank.items) × (enough_lanes lines ≤ caps.recording))
         → ¬ Rose (S.faults input.old) (S.faults input.new)
-        → ¬ Fails (sink_change O.held O.faults out.old out.new)
-        → ¬ Fails (sink_change R.held R.faults rec.old rec.new) →
+        → ¬ Fails (change O.Sink out.old out.new)
+        → ¬ Fails (change R.Sink rec.old rec.new) →
         (result.0.status ≡ DONE) ⊎ (result.0.status ≡ NO_MEMORY)) }
 {
     enough_room_stops_no_lane::<Box<dyn Method + Send>>();
@@ -282,14 +279,13 @@ fn play_lines<
         → EndsCommand (λ box. keep box) (λ box. heard box) L.left L.faults command
         result.0.status script bank.items result.0.heard.items result.0.left.items
         links.items result.1.items (clock_read C.left C.faults clock.old clock.new)
-        (sink_change R.held R.faults rec.old rec.new)
-        (sink_change O.held O.faults out.old out.new) }
+        (change R.Sink rec.old rec.new) (change O.Sink out.old out.new) }
     ensures back { HandsBack result.0.status bank.items result.0.heard.items
         result.0.left.items }
     ensures alone { LeavesAlone command result.0.status links.items result.1.items clock.old
         clock.new rec.old rec.new }
     ensures sink { result.0.status ≡ SINK_FAILED
-        → Fails (sink_change O.held O.faults out.old out.new) ⊎ (out.new ≡ out.old) }
+        → Fails (change O.Sink out.old out.new) ⊎ (out.new ≡ out.old) }
 {
     let need = count_adds(&lines);
     if bank.len() < need {
@@ -336,10 +332,9 @@ fn end<O: Sink, R: Sink>(
         → IsRecordingOf played.recorded.bytes.items caps history →
         EndsBoth (status_of played.recorded.outcome) result.status played.recorded.bytes.items
         (recorded_text caps history played.recorded.faults played.recorded.outcome)
-        (sink_change R.held R.faults rec.old rec.new)
-        (sink_change O.held O.faults out.old out.new) }
+        (change R.Sink rec.old rec.new) (change O.Sink out.old out.new) }
     ensures sink { result.status ≡ SINK_FAILED
-        → Fails (sink_change O.held O.faults out.old out.new) ⊎ (out.new ≡ out.old) }
+        → Fails (change O.Sink out.old out.new) ⊎ (out.new ≡ out.old) }
     ensures heard { result.heard.items ≡ played.heard.items }
     ensures left { result.left.items ≡ played.left.items }
 {
@@ -358,15 +353,14 @@ fn end_grown<O: Sink, R: Sink>(
         × IsRecordingOf played.recorded.bytes.items caps history }
     requires within { IsWithin growth (length played.recorded.bytes.items) }
     ensures ends { (start : R) (caps : Limits) (history : List Entry)
-        → HasGrown growth (sink_change R.held R.faults start rec.old)
+        → HasGrown growth (change R.Sink start rec.old)
         played.recorded.bytes.items
         → IsRecordingOf played.recorded.bytes.items caps history →
         EndsBoth (status_of played.recorded.outcome) result.status played.recorded.bytes.items
         (recorded_text caps history played.recorded.faults played.recorded.outcome)
-        (sink_change R.held R.faults start rec.new)
-        (sink_change O.held O.faults out.old out.new) }
+        (change R.Sink start rec.new) (change O.Sink out.old out.new) }
     ensures sink { result.status ≡ SINK_FAILED
-        → Fails (sink_change O.held O.faults out.old out.new) ⊎ (out.new ≡ out.old) }
+        → Fails (change O.Sink out.old out.new) ⊎ (out.new ≡ out.old) }
     ensures heard { result.heard.items ≡ played.heard.items }
     ensures left { result.left.items ≡ played.left.items }
 {

@@ -9,7 +9,7 @@ ghost use Rattle.osc_ends.specs.declared.status.TheConstants.{SINK_FAILED};
 ghost use Rattle.osc_ends.specs.Outcomes.{status_of};
 ghost use Rattle.osc_top.specs.Recorded.{EndsBoth};
 ghost use Rattle.osc_ends.specs.Printing.{recorded_text};
-ghost use Rattle.osc_ends.specs.Sinks.{sink_change, Fails};
+ghost use Rattle.osc_ends.specs.Sinks.{change, Fails};
 
 use crate::played::Played;
 use osc_edge::Sink;
@@ -33,14 +33,13 @@ pub(crate) fn write_both<O: Sink, R: Sink>(
         × IsRecordingOf recorded.now.bytes.items caps history }
     requires within { IsWithin growth (length recorded.now.bytes.items) }
     ensures both { (start : R) (caps : Limits) (history : List Entry)
-        → HasGrown growth (sink_change R.held R.faults start rec.old) recorded.now.bytes.items
+        → HasGrown growth (change R.Sink start rec.old) recorded.now.bytes.items
         → IsRecordingOf recorded.now.bytes.items caps history →
         EndsBoth (status_of recorded.now.outcome) result recorded.now.bytes.items
         (recorded_text caps history recorded.now.faults recorded.now.outcome)
-        (sink_change R.held R.faults start rec.new)
-        (sink_change O.held O.faults out.old out.new) }
+        (change R.Sink start rec.new) (change O.Sink out.old out.new) }
     ensures sink { result ≡ SINK_FAILED
-        → Fails (sink_change O.held O.faults out.old out.new) ⊎ (out.new ≡ out.old) }
+        → Fails (change O.Sink out.old out.new) ⊎ (out.new ≡ out.old) }
 {
     let status = write_rest(&recorded.bytes, growth, rec);
     if status != DONE {
@@ -62,10 +61,9 @@ pub(crate) fn end_resumed<O: Sink, R: Sink>(
         → IsRecordingOf played.recorded.bytes.items caps history →
         EndsBoth (status_of played.recorded.outcome) result.status played.recorded.bytes.items
         (recorded_text caps history played.recorded.faults played.recorded.outcome)
-        (sink_change R.held R.faults rec.old rec.new)
-        (sink_change O.held O.faults out.old out.new) }
+        (change R.Sink rec.old rec.new) (change O.Sink out.old out.new) }
     ensures sink { result.status ≡ SINK_FAILED
-        → Fails (sink_change O.held O.faults out.old out.new) ⊎ (out.new ≡ out.old) }
+        → Fails (change O.Sink out.old out.new) ⊎ (out.new ≡ out.old) }
     ensures heard { result.heard.items ≡ played.heard.items }
     ensures left { result.left.items ≡ played.left.items }
 {
@@ -94,10 +92,9 @@ fn write_resumed<'a, O: Sink, R: Sink>(
         → IsRecordingOf recorded.now.bytes.items caps history →
         EndsBoth (status_of recorded.now.outcome) result recorded.now.bytes.items
         (recorded_text caps history recorded.now.faults recorded.now.outcome)
-        (sink_change R.held R.faults rec.old rec.new)
-        (sink_change O.held O.faults out.old out.new) }
+        (change R.Sink rec.old rec.new) (change O.Sink out.old out.new) }
     ensures sink { result ≡ SINK_FAILED
-        → Fails (sink_change O.held O.faults out.old out.new) ⊎ (out.new ≡ out.old) }
+        → Fails (change O.Sink out.old out.new) ⊎ (out.new ≡ out.old) }
 {
     let status = write_text(DONE, &recorded.bytes, rec);
     if status != DONE {

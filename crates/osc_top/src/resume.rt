@@ -33,7 +33,7 @@ ghost use Rattle.osc_words.specs.Commands as said;
 ghost use Rattle.osc_ends.specs.Ends.{left_behind};
 ghost use Rattle.osc_ends.specs.Inputs.{OfInput};
 ghost use Rattle.osc_ends.specs.Printing.{usage_text};
-ghost use Rattle.osc_ends.specs.Sinks.{sink_change, Fails, IsSteady, GainsUnless};
+ghost use Rattle.osc_ends.specs.Sinks.{change, Fails, IsSteady, GainsUnless};
 ghost use Rattle.osc_top.specs.EndsResumed.{EndsResumed, IsResumed, IsUnresumed};
 ghost use Rattle.osc_top.specs.Resumed.{PlaysResumed, RecordsOneHistory};
 ghost use Rattle.osc_top.specs.Taken.{OfInputs};
@@ -81,7 +81,7 @@ pub fn resume_top<P: Source, S: Source, O: Sink, R: Sink, W: Threads + Wait + Sy
     ensures unread { said.resume_command_of (map string_bytes words.now) ≡ None
         → (past.new ≡ past.old) × (input.new ≡ input.old) }
     ensures usage_text { result.status ≡ USAGE
-        → GainsUnless (sink_change O.held O.faults out.old out.new) usage_text }
+        → GainsUnless (change O.Sink out.old out.new) usage_text }
 
     // Then a source that failed, of which nothing is written: the past's, and then nothing is read of the input, or the
     // input's. Any other answer but out of memory means that neither failed, and that each was read to its end, or to
@@ -112,8 +112,7 @@ pub fn resume_top<P: Source, S: Source, O: Sink, R: Sink, W: Threads + Wait + Sy
         (roomier caps command.room) before bank.items result.heard.items result.left.items
         lines)
         result.status bytes script (length bank.items)
-        (sink_change R.held R.faults rec.old rec.new)
-        (sink_change O.held O.faults out.old out.new))) }
+        (change R.Sink rec.old rec.new) (change O.Sink out.old out.new))) }
 
     // Where all was written, the recording is that of one history, which begins with the past, the boxes have heard it,
     // and `osc replay` prints from the recording what begins the text. Where the sink of the recording failed, nothing
@@ -121,17 +120,17 @@ pub fn resume_top<P: Source, S: Source, O: Sink, R: Sink, W: Threads + Wait + Sy
     ensures one_history { IfSome (said.resume_command_of (map string_bytes words.now))
         (λ command. IsResumed result.status → OfInput (P.left past.old)
         (λ bytes. RecordsOneHistory (λ box. keep box) (λ box. heard box) command.room bytes
-        result.heard.items (sink_change R.held R.faults rec.old rec.new)
-        (sink_change O.held O.faults out.old out.new))) }
+        result.heard.items (change R.Sink rec.old rec.new)
+        (change O.Sink out.old out.new))) }
     ensures sink { result.status ≡ SINK_FAILED
-        → Fails (sink_change O.held O.faults out.old out.new)
-        ⊎ (Fails (sink_change R.held R.faults rec.old rec.new) × (out.new ≡ out.old)) }
+        → Fails (change O.Sink out.old out.new)
+        ⊎ (Fails (change R.Sink rec.old rec.new) × (out.new ≡ out.old)) }
     ensures unrecorded { IsUnresumed result.status → rec.new ≡ rec.old }
 
     // Done means that nothing failed and that both were read to their ends.
     ensures steady { result.status ≡ DONE
-        → IsSteady (sink_change O.held O.faults out.old out.new)
-        × IsSteady (sink_change R.held R.faults rec.old rec.new) }
+        → IsSteady (change O.Sink out.old out.new)
+        × IsSteady (change R.Sink rec.old rec.new) }
     ensures ended { result.status ≡ DONE
         → IfSome (P.left past.old) (λ all. P.left past.new ≡ Some [])
         × IfSome (S.left input.old) (λ all. S.left input.new ≡ Some []) }

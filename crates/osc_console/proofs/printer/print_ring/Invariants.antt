@@ -1,6 +1,6 @@
-use Rattle.osc_ends.specs.Sinks.{sink_change}
+use Rattle.osc_ends.specs.Sinks.{change}
 use Rattle.osc_console.specs.Printing.{PrintsRing}
 use Rattle.osc_console.proofs.printer.print_ring.Given as goal
 
 abbrev pub invariant-loop : goal.invariant-loop
-invariant-loop g l = PrintsRing l.initial.ring l.ring (sink_change g.O.Sink.held g.O.Sink.faults l.initial.out l.out) l.whole
+invariant-loop g l = PrintsRing l.initial.ring l.ring (change g.O.Sink l.initial.out l.out) l.whole

@@ -22,7 +22,7 @@ loop-ring-preserved g c =
         },
       );
       gains = elim c.if-whole.branch [
-        | then-whole w ↦ λ whole. gains_more g.O.Sink.held g.O.Sink.faults _ _ _ _ _
+        | then-whole w ↦ λ whole. gains_more g.O.Sink _ _ _ _ _
             (before.gains w.if-whole.true) (took.ensures.gains (sym w.whole-is ∙ whole))
         | else-whole w ↦ λ whole. cc (sym w.if-whole.false ∙ sym w.whole-is ∙ whole)
       ];

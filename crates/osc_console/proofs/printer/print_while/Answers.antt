@@ -5,7 +5,7 @@ use Rattle.osc_console.proofs.printer.print_while.Goals.{then-whole, else-whole}
 
 pub returns-then-is_over : goal.returns-then-is_over
 returns-then-is_over g c =
-    prints_more g.O.Sink.held g.O.Sink.faults _ _ _ _ _ _ _ _ _
+    prints_more g.O.Sink _ _ _ _ _ _ _ _ _
     (elim c.if-whole.branch [
       | then-whole w ↦ λ whole. (w.if-whole.true, sym w.whole-is ∙ whole)
       | else-whole w ↦ λ whole. cc (sym w.if-whole.false ∙ sym w.whole-is ∙ whole)
@@ -14,7 +14,7 @@ returns-then-is_over g c =
 
 pub loop-preserved : goal.loop-preserved
 loop-preserved g c =
-    prints_more g.O.Sink.held g.O.Sink.faults _ _ _ _ _ _ _ _ _
+    prints_more g.O.Sink _ _ _ _ _ _ _ _ _
     (elim c.if-whole.branch [
       | then-whole w ↦ λ whole. (w.if-whole.true, sym w.whole-is ∙ whole)
       | else-whole w ↦ λ whole. cc (sym w.if-whole.false ∙ sym w.whole-is ∙ whole)

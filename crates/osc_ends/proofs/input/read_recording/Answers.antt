@@ -6,7 +6,7 @@ use Rattle.osc_ends.proofs.input.read_recording.Goals as goal
 pub returns-in-Whole-clause-input : goal.returns-in-Whole-clause-input
 returns-in-Whole-clause-input g c =
     let read = c.in-Whole.ensures in
-    reads_whole max_recording 0 _ _ c.in-Whole.bytes.items _ _ (λ four. omega (arith, four)) read.0 read.1 read.2
+    reads_whole g.S.Source max_recording 0 _ _ c.in-Whole.bytes.items (λ four. omega (arith, four)) read.0 read.1 read.2
 
 pub returns-in-TooLong-clause-refused : goal.returns-in-TooLong-clause-refused
 returns-in-TooLong-clause-refused g c =

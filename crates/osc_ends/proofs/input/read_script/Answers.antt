@@ -5,7 +5,7 @@ use Rattle.osc_ends.proofs.input.read_script.Goals as goal
 pub returns-in-Whole-clause-input : goal.returns-in-Whole-clause-input
 returns-in-Whole-clause-input g c =
     let read = c.in-Whole.ensures in
-    reads_whole MAX_SCRIPT _ _ _ c.in-Whole.bytes.items _ _ (read_sound c.read_lines.result c.read_lines.ensures.known) read.0 read.1 read.2
+    reads_whole g.S.Source MAX_SCRIPT _ _ _ c.in-Whole.bytes.items (read_sound c.read_lines.result c.read_lines.ensures.known) read.0 read.1 read.2
 
 pub returns-in-TooLong-clause-refused : goal.returns-in-TooLong-clause-refused
 returns-in-TooLong-clause-refused g c =

@@ -1,12 +1,12 @@
 use Rattle.std.proofs.Common.{◌-◌, ◌≤◌, length, take}
-use Rattle.osc_ends.specs.Sinks.{sink_change, Gains, IsSteady}
+use Rattle.osc_ends.specs.Sinks.{change, Gains, IsSteady}
 use Rattle.osc_ends.proofs.whole.write_whole.Given as goal
 
 abbrev pub invariant-loop-at : goal.invariant-loop-at
 invariant-loop-at g l = record {
   within : l.at ≤ length l.bytes;
-  gained : Gains (sink_change g.O.Sink.held g.O.Sink.faults l.initial.out l.out) (take l.at l.bytes);
-  steady : IsSteady (sink_change g.O.Sink.held g.O.Sink.faults l.initial.out l.out);
+  gained : Gains (change g.O.Sink l.initial.out l.out) (take l.at l.bytes);
+  steady : IsSteady (change g.O.Sink l.initial.out l.out);
 }
 
 abbrev pub decreases-loop-at : goal.decreases-loop-at

@@ -1,5 +1,5 @@
 use Rattle.std.proofs.Common.{◌≡◌, ◌≤◌, ◌<◌, ◌+◌, ◌-◌, ℕ, length, take, drop, min, refl, ap, ◌∙◌, arith, length-append}
-use Rattle.osc_ends.specs.Sinks.{sink_change}
+use Rattle.osc_ends.specs.Sinks.{change}
 use Rattle.osc_turn.specs.Passes.{view}
 use Rattle.osc_live.specs.Reads.{Writes}
 use Rattle.osc_live.specs.Looks.{HasLooked}
@@ -49,16 +49,16 @@ piece_then g c size less =
 
 -- what was written before was written of what is recorded then
 grown_then : (g : _) (c : After-read-next g) (start : _)
-    → HasGrown (Written c.args.span.from) (sink_change g.R.Sink.held g.R.Sink.faults start c.args.rec.now)
+    → HasGrown (Written c.args.span.from) (change g.R.Sink start c.args.rec.now)
     (recorded c.args.live.now.caps (view c.args.caller.pass))
-    → HasGrown (Written c.loop-at.at) (sink_change g.R.Sink.held g.R.Sink.faults start c.loop-at.rec)
+    → HasGrown (Written c.loop-at.at) (change g.R.Sink start c.loop-at.rec)
     (recorded c.args.live.now.caps (view c.read-next.result.0.pass))
 grown_then g c start grown =
     let caps = c.args.live.now.caps in
     let v = view c.loop-at.caller.pass in
     let w = view c.read-next.result.0.pass in
     let on = recorded_on caps v w c.read-next.ensures.read.goes_on in
-    grown_as (Written c.loop-at.at) (sink_change g.R.Sink.held g.R.Sink.faults start c.loop-at.rec) (recorded caps v) (recorded caps w) on.0 on.1
+    grown_as (Written c.loop-at.at) (change g.R.Sink start c.loop-at.rec) (recorded caps v) (recorded caps w) on.0 on.1
     (c.loop-at.invariant.grown start grown)
 
 -- how many bytes are written of those that were read

@@ -1,5 +1,5 @@
 use Rattle.std.proofs.Common.{◌≡◌, ◌≤◌, ◌-◌, length}
-use Rattle.osc_ends.specs.Sinks.{sink_change}
+use Rattle.osc_ends.specs.Sinks.{change}
 use Rattle.osc_turn.specs.Passes.{view}
 use Rattle.osc_live.specs.Seen.{IsTokenOf}
 use Rattle.osc_live.specs.Looks.{HasLooked}
@@ -15,9 +15,9 @@ invariant-loop-at g l = record {
   space : length l.space ≡ length l.initial.space;
   forward : l.at ≤ l.span.end;
   within : l.span.end ≤ length (recorded l.live.caps (view l.caller.pass));
-  grown : (start : _) → HasGrown (Written l.span.from) (sink_change g.R.Sink.held g.R.Sink.faults start l.initial.rec)
+  grown : (start : _) → HasGrown (Written l.span.from) (change g.R.Sink start l.initial.rec)
       (recorded l.live.caps (view l.fn.caller.pass))
-      → HasGrown (Written l.at) (sink_change g.R.Sink.held g.R.Sink.faults start l.rec) (recorded l.live.caps (view l.caller.pass));
+      → HasGrown (Written l.at) (change g.R.Sink start l.rec) (recorded l.live.caps (view l.caller.pass));
 }
 
 abbrev pub decreases-loop-at : goal.decreases-loop-at

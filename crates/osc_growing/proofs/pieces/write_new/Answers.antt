@@ -4,7 +4,7 @@ use Rattle.std.specs.List.{AllByRecursion}
 use Rattle.osc_turn.specs.Passes.{view}
 use Rattle.osc_live.specs.Reads.{Writes}
 use Rattle.osc_live.specs.Seen.{history_of}
-use Rattle.osc_ends.specs.Sinks.{sink_change}
+use Rattle.osc_ends.specs.Sinks.{change}
 use Rattle.osc_growing.specs.declared.growth.Growth.{Growth}
 use Rattle.osc_growing.specs.declared.growth.Growth.TheVariants.{Written}
 use Rattle.osc_growing.specs.Entries.{HasEndIn, HoldsWhole, IsEndIn, joined, texts_of}
@@ -99,17 +99,17 @@ large_then g c full =
 
 -- what was written before was written of what is recorded then
 grown_then : (g : _) (c : After-read-caller g) (start : _)
-    → HasGrown c.args.growth (sink_change g.R.Sink.held g.R.Sink.faults start c.args.rec.now) (recorded c.args.live.now.caps (view c.args.caller.pass))
-    → HasGrown (Written c.in-Written.from) (sink_change g.R.Sink.held g.R.Sink.faults start c.args.rec.now)
+    → HasGrown c.args.growth (change g.R.Sink start c.args.rec.now) (recorded c.args.live.now.caps (view c.args.caller.pass))
+    → HasGrown (Written c.in-Written.from) (change g.R.Sink start c.args.rec.now)
     (recorded c.args.live.now.caps (view c.read-caller.result.0.pass))
 grown_then g c start grown =
     let caps = c.args.live.now.caps in
     let v = view c.args.caller.pass in
     let w = view c.read-caller.result.0.pass in
-    let change = sink_change g.R.Sink.held g.R.Sink.faults start c.args.rec.now in
+    let sink = change g.R.Sink start c.args.rec.now in
     let on = recorded_on caps v w c.read-caller.ensures.read.goes_on in
-    grown_as (Written c.in-Written.from) change (recorded caps v) (recorded caps w) on.0 on.1
-    (subst (λ (t : Growth). HasGrown t change (recorded caps v)) c.in-Written.is grown)
+    grown_as (Written c.in-Written.from) sink (recorded caps v) (recorded caps w) on.0 on.1
+    (subst (λ (t : Growth). HasGrown t sink (recorded caps v)) c.in-Written.is grown)
 
 -- the part that is written
 part_then : (g : _) (c : After-read-caller g) (whole : ℕ) → whole ≤ length (take c.read-caller.result.1 c.read-caller.new.into)

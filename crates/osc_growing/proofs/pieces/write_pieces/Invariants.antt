@@ -1,5 +1,5 @@
 use Rattle.std.proofs.Common.{◌≡◌, ◌≤◌, length}
-use Rattle.osc_ends.specs.Sinks.{sink_change}
+use Rattle.osc_ends.specs.Sinks.{change}
 use Rattle.osc_turn.specs.Passes.{view}
 use Rattle.osc_live.specs.Seen.{IsTokenOf, history_of}
 use Rattle.osc_live.specs.Looks.{HasLooked}
@@ -14,5 +14,5 @@ invariant-loop g l = record {
   space : 4 ≤ length l.space;
   looked : HasLooked (view l.fn.first.pass) (view l.first.pass);
   between : HasEndIn l.growth (texts_of l.live.caps (history_of (view l.first.pass)));
-  grown : HasGrown l.growth (sink_change g.R.Sink.held g.R.Sink.faults l.initial.rec l.rec) (recorded l.live.caps (view l.first.pass));
+  grown : HasGrown l.growth (change g.R.Sink l.initial.rec l.rec) (recorded l.live.caps (view l.first.pass));
 }

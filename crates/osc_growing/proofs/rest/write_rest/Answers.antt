@@ -1,7 +1,7 @@
 use Rattle.std.proofs.Common.{ℕ, List, refl, subst}
 use Rattle.std.proofs.lemmas.List.{take_rest}
 use Rattle.osc_ends.specs.Ends.{EndsText}
-use Rattle.osc_ends.specs.Sinks.{sink_change}
+use Rattle.osc_ends.specs.Sinks.{change}
 use Rattle.osc_growing.specs.declared.growth.Growth.{Growth}
 use Rattle.osc_growing.specs.Growing.{HasGrown}
 use Rattle.osc_growing.proofs.Growths.{Follows}
@@ -10,8 +10,8 @@ use Rattle.osc_growing.proofs.rest.write_rest.Goals as goal
 
 pub returns-in-Written : goal.returns-in-Written
 returns-in-Written g c = λ start grown.
-    let one = sink_change g.R.Sink.held g.R.Sink.faults start c.args.rec.now in
-    let other = sink_change g.R.Sink.held g.R.Sink.faults c.args.rec.now c.write_text.new.out in
+    let one = change g.R.Sink start c.args.rec.now in
+    let other = change g.R.Sink c.args.rec.now c.write_text.new.out in
     let follows : Follows one other = record { held = refl; faults = refl } in
     rest_written one other c.args.recording.now c.in-Written.at c.write_text.result follows
     (subst (λ (t : Growth). HasGrown t one c.args.recording.now) c.in-Written.is grown)
@@ -19,8 +19,8 @@ returns-in-Written g c = λ start grown.
 
 pub returns-in-Failed : goal.returns-in-Failed
 returns-in-Failed g c = λ start grown.
-    rest_failed (sink_change g.R.Sink.held g.R.Sink.faults start c.args.rec.now) c.args.recording.now
-    (subst (λ (t : Growth). HasGrown t (sink_change g.R.Sink.held g.R.Sink.faults start c.args.rec.now) c.args.recording.now) c.in-Failed.is grown)
+    rest_failed (change g.R.Sink start c.args.rec.now) c.args.recording.now
+    (subst (λ (t : Growth). HasGrown t (change g.R.Sink start c.args.rec.now) c.args.recording.now) c.in-Failed.is grown)
 
 pub returns-in-NoMemory : goal.returns-in-NoMemory
-returns-in-NoMemory g c = λ start grown. rest_short (sink_change g.R.Sink.held g.R.Sink.faults start c.args.rec.now) c.args.recording.now
+returns-in-NoMemory g c = λ start grown. rest_short (change g.R.Sink start c.args.rec.now) c.args.recording.now

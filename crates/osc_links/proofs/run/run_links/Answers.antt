@@ -18,7 +18,7 @@ use Rattle.osc_links.specs.Hosts.{Hosts}
 use Rattle.osc_links.specs.Serves.{link_of}
 use Rattle.osc_links.specs.Ticks.{clock_read}
 use Rattle.osc_links.specs.Works.{link_plays, clock_ends}
-use Rattle.osc_ends.specs.Sinks.{sink_change}
+use Rattle.osc_ends.specs.Sinks.{change}
 use Rattle.osc_growing.specs.declared.growth.Growth.{Growth}
 use Rattle.osc_growing.specs.declared.growth.Growth.TheVariants.{Written}
 use Rattle.osc_growing.specs.Growing.{HasGrown}
@@ -273,23 +273,23 @@ returns-in_ok-links-in-NoRoom-clause-hosts g c =
 pub returns-in_ok-lived-in-Some-clause-grown : goal.returns-in_ok-lived-in-Some-clause-grown
 returns-in_ok-lived-in-Some-clause-grown g c =
     subst (λ (h : Hosted g.row.M.Denot g.row.L.Denot). HasGrown h.growth
-    (sink_change g.R.Sink.held g.R.Sink.faults c.args.rec.now c.args.rec.now) h.closed.bytes.items) (sym c.put_together.ensures)
+    (change g.R.Sink c.args.rec.now c.args.rec.now) h.closed.bytes.items) (sym c.put_together.ensures)
     (grown_none (g.R.Sink.held c.args.rec.now) (g.R.Sink.faults c.args.rec.now) c.in_ok-lived-in-Some.lived.closed.bytes.items)
 
 pub returns-in_ok-links-in-Each-clause-grown : goal.returns-in_ok-links-in-Each-clause-grown
 returns-in_ok-links-in-Each-clause-grown g c =
-    let change = sink_change g.R.Sink.held g.R.Sink.faults c.args.rec.now c.live_under.new.lent in
+    let sink = change g.R.Sink c.args.rec.now c.live_under.new.lent in
     let bytes = c.in_ok-lived-in-None.lived.closed.bytes.items in
-    subst (λ (h : Hosted g.row.M.Denot g.row.L.Denot). HasGrown h.growth change h.closed.bytes.items) (sym c.put_together-in-Each.ensures)
-    (subst (λ (growth : Growth). HasGrown growth change bytes) (sym c.growth_of-growth.ensures)
-    (looked_grown g.R.Sink.held g.R.Sink.faults c.in_ok-life.life.live.caps c.args.rec.now c.live_under.new.lent bytes c.in_ok-lived-in-None.looked
+    subst (λ (h : Hosted g.row.M.Denot g.row.L.Denot). HasGrown h.growth sink h.closed.bytes.items) (sym c.put_together-in-Each.ensures)
+    (subst (λ (growth : Growth). HasGrown growth sink bytes) (sym c.growth_of-growth.ensures)
+    (looked_grown g.R.Sink c.in_ok-life.life.live.caps c.args.rec.now c.live_under.new.lent bytes c.in_ok-lived-in-None.looked
     c.in_ok-lived-in-None.ensures.looked))
 
 pub returns-in_ok-links-in-NoRoom-clause-grown : goal.returns-in_ok-links-in-NoRoom-clause-grown
 returns-in_ok-links-in-NoRoom-clause-grown g c =
-    let change = sink_change g.R.Sink.held g.R.Sink.faults c.args.rec.now c.live_under.new.lent in
+    let sink = change g.R.Sink c.args.rec.now c.live_under.new.lent in
     let bytes = c.in_ok-lived-in-None.lived.closed.bytes.items in
-    subst (λ (h : Hosted g.row.M.Denot g.row.L.Denot). HasGrown h.growth change h.closed.bytes.items) (sym c.put_together-in-NoRoom.ensures)
-    (subst (λ (growth : Growth). HasGrown growth change bytes) (sym c.growth_of-growth.ensures)
-    (looked_grown g.R.Sink.held g.R.Sink.faults c.in_ok-life.life.live.caps c.args.rec.now c.live_under.new.lent bytes c.in_ok-lived-in-None.looked
+    subst (λ (h : Hosted g.row.M.Denot g.row.L.Denot). HasGrown h.growth sink h.closed.bytes.items) (sym c.put_together-in-NoRoom.ensures)
+    (subst (λ (growth : Growth). HasGrown growth sink bytes) (sym c.growth_of-growth.ensures)
+    (looked_grown g.R.Sink c.in_ok-life.life.live.caps c.args.rec.now c.live_under.new.lent bytes c.in_ok-lived-in-None.looked
     c.in_ok-lived-in-None.ensures.looked))

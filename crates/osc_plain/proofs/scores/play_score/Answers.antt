@@ -1,5 +1,5 @@
 use Rattle.std.proofs.Common.{◌≤◌, inl, length, IsOkAnd, refl, rules}
-use Rattle.osc_ends.specs.Sinks.{sink_change}
+use Rattle.osc_ends.specs.Sinks.{change}
 use Rattle.osc_score.specs.Scores.{addresses_of}
 use Rattle.osc_score.specs.Reading.{score_of}
 use Rattle.osc_score_laws.specs.Heard.{score_lines}
@@ -34,7 +34,7 @@ returns-in-Ok-clause-end g c =
     let over = c.play_script.ensures.ends (score_lines notes) spelled in
     let run = moved (c.in-Ok.ensures.unwritten (inl refl))
     (λ before. EndsLines Text default_limits c.play_script.result.status (length c.args.bank.items) (score_lines notes)
-    (sink_change g.O.Sink.held g.O.Sink.faults before c.play_script.new.out)) over.0 in
+    (change g.O.Sink before c.play_script.new.out)) over.0 in
     let adds = c.a_score_adds_its_addresses.ensures notes in
     record {
       known = search rules;

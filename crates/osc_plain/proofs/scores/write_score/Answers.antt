@@ -1,6 +1,6 @@
 use Rattle.std.proofs.Common.{inl, refl, rules}
 use Rattle.osc_ends.specs.Ends.{EndsText}
-use Rattle.osc_ends.specs.Sinks.{sink_change}
+use Rattle.osc_ends.specs.Sinks.{change}
 use Rattle.osc_score.specs.Scripted.{score_script}
 use Rattle.osc_plain.specs.Scores.{EndsScore}
 use Rattle.osc_plain.proofs.ScoreEnds.{ScoreLaws, moved, refused_ends, score_ends}
@@ -25,7 +25,7 @@ returns-in-Ok g c =
           read.0,
           read.1,
           moved (c.in-Ok.ensures.unwritten (inl refl))
-              (λ before. EndsScore c.write_script.result read.0 (sink_change g.O.Sink.held g.O.Sink.faults before c.write_script.new.out)) ends,
+              (λ before. EndsScore c.write_script.result read.0 (change g.O.Sink before c.write_script.new.out)) ends,
         );
         sink = search rules;
         steady = search rules;
@@ -36,7 +36,7 @@ returns-in-Ok g c =
 
 pub returns-in-Err : goal.returns-in-Err
 returns-in-Err g c =
-    let out = sink_change g.O.Sink.held g.O.Sink.faults c.args.out.now c.read_score.new.out in
+    let out = change g.O.Sink c.args.out.now c.read_score.new.out in
     record {
       end = record {
         known = search rules;

@@ -5,7 +5,7 @@ use Rattle.osc_plain.proofs.top.plain_top.Goals as goal
 pub returns-in-Err-clause-command : goal.returns-in-Err-clause-command
 returns-in-Err-clause-command g c =
     any_said _ _
-    (λ command. memory_short _ _ _ _ _ _ _ _ _ _ c.args.bank.items c.unplayed-in-Err.result.heard.items c.unplayed-in-Err.result.left.items
+    (λ command. memory_short _ _ _ _ _ _ _ _ c.args.bank.items c.unplayed-in-Err.result.heard.items c.unplayed-in-Err.result.left.items
     c.unplayed-in-Err.result.status command c.unplayed-in-Err.ensures.status c.unplayed-in-Err.ensures.heard c.unplayed-in-Err.ensures.left)
 
 pub returns-in-Ok-Some-Read-clause-enough : goal.returns-in-Ok-Some-Read-clause-enough

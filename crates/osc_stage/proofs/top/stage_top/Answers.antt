@@ -1,5 +1,5 @@
 use Rattle.std.proofs.Common.{refl}
-use Rattle.osc_ends.specs.Sinks.{sink_change}
+use Rattle.osc_ends.specs.Sinks.{change}
 use Rattle.osc_links.specs.Ticks.{clock_read}
 use Rattle.osc_stage.proofs.Hosting.{staged_so, history_so, cause_so, written_on}
 use Rattle.osc_stage.proofs.top.stage_top.Goals as goal
@@ -15,7 +15,7 @@ pub returns-clause-one_history : goal.returns-clause-one_history
 returns-clause-one_history g c =
     let done = c.settle.ensures in
     let clock = clock_read g.C.Clock.left g.C.Clock.faults c.args.clock.now c.run_links.new.clock in
-    let rec_change = sink_change g.R.Sink.held g.R.Sink.faults c.args.rec.now c.settle.new.rec in
+    let rec_change = change g.R.Sink c.args.rec.now c.settle.new.rec in
     history_so _ _ g.L.Link.left g.L.Link.faults c.args.stage clock c.in_ok-hosted.hosted c.in_ok-hosted.ensures.hosts g.O.Outlet.sent g.O.Outlet.losses
     rec_change (λ relay. relay.relayed) (λ caps history told address room sent losses legal hears few has.
     c.what_was_sent_is_what_the_history_called.ensures caps history told address room sent losses legal hears few has)
@@ -30,6 +30,6 @@ pub returns-clause-cause : goal.returns-clause-cause
 returns-clause-cause g c =
     let done = c.settle.ensures in
     let clock = clock_read g.C.Clock.left g.C.Clock.faults c.args.clock.now c.run_links.new.clock in
-    let rec_change = sink_change g.R.Sink.held g.R.Sink.faults c.args.rec.now c.settle.new.rec in
+    let rec_change = change g.R.Sink c.args.rec.now c.settle.new.rec in
     cause_so _ _ g.L.Link.left g.L.Link.faults c.args.stage clock c.in_ok-hosted.hosted c.in_ok-hosted.ensures.hosts rec_change c.settle.result done.links
     done.ended (written_on c.settle.result _ c.args.rec.now _ done.written c.in_ok-hosted.ensures.grown)

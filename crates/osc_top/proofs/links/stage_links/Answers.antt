@@ -1,5 +1,5 @@
 use Rattle.std.proofs.Common.{◌≡◌, ℕ, List, take, drop, ap, subst, sym, ◌∙◌, rules}
-use Rattle.osc_ends.specs.Sinks.{sink_change}
+use Rattle.osc_ends.specs.Sinks.{change}
 use Rattle.osc_growing.specs.Growing.{HasGrown}
 use Rattle.osc_links.specs.Hosts.{Hosts}
 use Rattle.osc_links.specs.Ticks.{clock_read}
@@ -35,5 +35,5 @@ returns-clause-staged g c =
 
 pub returns-clause-grown : goal.returns-clause-grown
 returns-clause-grown g c =
-    subst (HasGrown c.in_ok-hosted.hosted.growth (sink_change g.R.Sink.held g.R.Sink.faults c.args.rec.now c.run_links.new.rec)) (sym c.in_ok-settled.ensures.bytes)
+    subst (HasGrown c.in_ok-hosted.hosted.growth (change g.R.Sink c.args.rec.now c.run_links.new.rec)) (sym c.in_ok-settled.ensures.bytes)
     c.in_ok-hosted.ensures.grown

@@ -4,7 +4,7 @@ use Rattle.osc_words.specs.declared.command.LiveCommand.TheVariants as live
 use Rattle.osc_script.specs.Adds.{count_adds}
 use Rattle.osc_top.proofs.LiveEnds.{ends_short, lanes_end, line_decided, links_end, both_played}
 use Rattle.osc_top.proofs.Staged.{lanes_ascending, links_ascending}
-use Rattle.osc_ends.specs.Sinks.{sink_change}
+use Rattle.osc_ends.specs.Sinks.{change}
 use Rattle.osc_growing.proofs.Growths.{grown_within}
 use Rattle.osc_top.proofs.live.play_lines.Goals as goal
 
@@ -40,7 +40,7 @@ returns-in-Ok-stage_links-clause-ends g c = λ script is.
 
 pub end_grown-requires-clause-within : goal.end_grown-requires-clause-within
 end_grown-requires-clause-within g c =
-    grown_within c.in-Ok-stage_links.growth (sink_change g.R.Sink.held g.R.Sink.faults c.args.rec.now c.stage_links.new.rec) c.in-Ok-stage_links.played.recorded.bytes.items c.in-Ok-stage_links.ensures.grown
+    grown_within c.in-Ok-stage_links.growth (change g.R.Sink c.args.rec.now c.stage_links.new.rec) c.in-Ok-stage_links.played.recorded.bytes.items c.in-Ok-stage_links.ensures.grown
 
 pub returns-in-Ok-clause-back : goal.returns-in-Ok-clause-back
 returns-in-Ok-clause-back g c =
