@@ -1,6 +1,7 @@
 //! The trusted edge to the network: a link that binds a port of UDP, and keeps who has sent the
 //! last datagram.
-ghost use Rattle.std.specs.Prelude.{◌≡◌, ◌≤◌, ◌↔◌, ◌⊎◌, length, max, IfOk, IfSome, IsNone, IsTrue, None};
+ghost use Rattle.std.specs.Prelude.{◌≡◌, ◌≤◌, ◌↔◌, ◌⊎◌, length, max, IfOk, IfSome, IsNone, IsTrue};
+ghost use Rattle.std.specs.Prelude.{None};
 ghost use Rattle.std.specs.Net.Addr.{is_ipv6};
 ghost use Rattle.std.specs.Net.Socket.{socket_ip};
 ghost use Rattle.std.specs.IoError.{error_kind};

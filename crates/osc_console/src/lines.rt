@@ -52,7 +52,8 @@ impl Drop for Lines<'_> {
 impl<'a> Lines<'a> {
     ghost use Rattle.std.specs.Prelude.{◌≡◌, ◌↔◌, [], IsTrue, OnOk, None};
     ghost use Rattle.osc_ends.specs.Sinks.{change};
-    ghost use Rattle.osc_console.specs.Showing.{AddsCame, after_came, MakesLines, Shows, PutsTogether};
+    ghost use Rattle.osc_console.specs.Showing.{AddsCame, after_came, MakesLines, Shows};
+    ghost use Rattle.osc_console.specs.Showing.{PutsTogether};
     ghost use Rattle.osc_console.specs.Agenda.{first_tag};
 
     /// Nothing was shown yet. Takes no memory.

@@ -1,36 +1,13 @@
 //! Reads the input of a program to its end.
-ghost use Rattle.osc_ends.specs.declared.status.TheConstants.{
-  DONE,
-  NO_MEMORY,
-  REFUSED,
-  SOURCE_FAILED,
-};
-ghost use Rattle.std.specs.Prelude.{
-  ◌≡◌,
-  ◌⊎◌,
-  ◌≤◌,
-  ◌<◌,
-  ℕ,
-  List,
-  [],
-  length,
-  IfOk,
-  IfErr,
-  IfSome,
-  IsErrAnd,
-  Some,
-  Ok,
-};
+ghost use Rattle.osc_ends.specs.declared.status.TheConstants.{DONE, NO_MEMORY, REFUSED};
+ghost use Rattle.osc_ends.specs.declared.status.TheConstants.{SOURCE_FAILED};
+ghost use Rattle.std.specs.Prelude.{◌≡◌, ◌⊎◌, ◌≤◌, ◌<◌, ℕ, List, [], length, IfOk, IfErr, IfSome};
+ghost use Rattle.std.specs.Prelude.{IsErrAnd, Some, Ok};
 ghost use Rattle.osc_model.specs.Limits.{max_recording};
 ghost use Rattle.osc_script.specs.declared.script.TheConstants.{MAX_SCRIPT};
 ghost use Rattle.osc_script.specs.Scripts.{script_of, AreOf};
-ghost use Rattle.osc_ends.specs.Inputs.{
-  OfInput,
-  ReadsInput,
-  RefusesLength,
-  RefusesScript,
-  read_status,
-};
+ghost use Rattle.osc_ends.specs.Inputs.{OfInput, ReadsInput, RefusesLength, RefusesScript};
+ghost use Rattle.osc_ends.specs.Inputs.{read_status};
 ghost use Rattle.osc_ends.specs.Printing.{refusal_text};
 ghost use Rattle.osc_ends.specs.Sinks.{change, GainsUnless};
 

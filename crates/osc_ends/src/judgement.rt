@@ -1,6 +1,5 @@
 //! Inputs that are all read before any of them is judged.
-ghost use Rattle.osc_ends.specs.declared.status.TheConstants.{NO_MEMORY, REFUSED};
-ghost use Rattle.osc_ends.specs.declared.status.TheConstants.{SOURCE_FAILED};
+ghost use Rattle.osc_ends.specs.declared.status.TheConstants.{NO_MEMORY, REFUSED, SOURCE_FAILED};
 ghost use Rattle.std.specs.Prelude.{◌≡◌, ◌⊎◌, ◌≤◌, ℕ, List, length, IfOk, IfErr, IsErrAnd, Ok, Err};
 ghost use Rattle.osc_model.specs.Limits.{Limits, max_recording};
 ghost use Rattle.osc_model.specs.Events.{Entry};

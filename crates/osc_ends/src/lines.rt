@@ -2,17 +2,9 @@
 ghost use Rattle.std.specs.Prelude.{◌≡◌, ◌++◌, OnOk};
 ghost use Rattle.osc_print.specs.Lines.{line};
 ghost use Rattle.osc_print.specs.Entries.{named, named_room};
-ghost use Rattle.osc_ends.specs.Printing.{
-  refusal_text,
-  score_fault_text,
-  malformed_text,
-  named_bytes,
-  disagrees_text,
-  too_large_text,
-  bank_short_text,
-  callers_full_text,
-  last_text,
-};
+ghost use Rattle.osc_ends.specs.Printing.{refusal_text, score_fault_text, malformed_text};
+ghost use Rattle.osc_ends.specs.Printing.{named_bytes, disagrees_text, too_large_text};
+ghost use Rattle.osc_ends.specs.Printing.{bank_short_text, callers_full_text, last_text};
 
 use crate::outcome::Outcome;
 use osc_print::Text;

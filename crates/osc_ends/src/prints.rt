@@ -1,13 +1,7 @@
 //! Writes what the commands print.
-ghost use Rattle.osc_ends.specs.declared.status.TheConstants.{
-  BANK_SHORT,
-  CALLERS_FULL,
-  DONE,
-  NO_MEMORY,
-  REFUSED,
-  SINK_FAILED,
-  USAGE,
-};
+ghost use Rattle.osc_ends.specs.declared.status.TheConstants.{BANK_SHORT, CALLERS_FULL, DONE};
+ghost use Rattle.osc_ends.specs.declared.status.TheConstants.{NO_MEMORY, REFUSED, SINK_FAILED};
+ghost use Rattle.osc_ends.specs.declared.status.TheConstants.{USAGE};
 ghost use Rattle.std.specs.Prelude.{◌≡◌, ◌≢◌, ◌⊎◌, ◌≤◌, List, ◌++◌, length, IfOk, OnOk};
 ghost use Rattle.osc_model.specs.Limits.{Limits, max_recording};
 ghost use Rattle.osc_model.specs.Events.{Entry};
@@ -17,29 +11,13 @@ ghost use Rattle.osc_replay.specs.Formed.{IsFormed};
 ghost use Rattle.osc_replay.specs.Old.{IsOldRecordingOf};
 ghost use Rattle.osc_replay.specs.Onward.{GoesOnFrom};
 ghost use Rattle.osc_replay.specs.Upgrading.{upgraded_text};
-ghost use Rattle.osc_ends.specs.Printing.{
-  refusal_text,
-  score_fault_text,
-  malformed_text,
-  disagrees_text,
-  too_large_text,
-  bank_short_text,
-  callers_full_text,
-  usage_text,
-  last_text,
-  recorded_text,
-};
+ghost use Rattle.osc_ends.specs.Printing.{refusal_text, score_fault_text, malformed_text};
+ghost use Rattle.osc_ends.specs.Printing.{disagrees_text, too_large_text, bank_short_text};
+ghost use Rattle.osc_ends.specs.Printing.{callers_full_text, usage_text, last_text, recorded_text};
 ghost use Rattle.osc_ends.specs.Outcomes as outcomes;
 ghost use Rattle.osc_ends.specs.Ends.{IsWritten, EndsText, EndsLine};
-ghost use Rattle.osc_ends.specs.Recordings.{
-  EndsRecording,
-  DumpsTo,
-  RefusesForm,
-  RefusesRecording,
-  RefusesUpgrade,
-  ReplaysTo,
-  UpgradesTo,
-};
+ghost use Rattle.osc_ends.specs.Recordings.{EndsRecording, DumpsTo, RefusesForm, RefusesRecording};
+ghost use Rattle.osc_ends.specs.Recordings.{RefusesUpgrade, ReplaysTo, UpgradesTo};
 ghost use Rattle.osc_ends.specs.Sinks.{change};
 
 use crate::lines::{

@@ -1,27 +1,9 @@
 //! Reads the score that the input of a program is.
 ghost use Rattle.osc_score.specs.declared.limits.TheConstants.{MAX_SCORE};
-ghost use Rattle.osc_ends.specs.declared.status.TheConstants.{
-  DONE,
-  NO_MEMORY,
-  REFUSED,
-  SOURCE_FAILED,
-};
-ghost use Rattle.std.specs.Prelude.{
-  ◌≡◌,
-  ◌⊎◌,
-  ◌≤◌,
-  ◌<◌,
-  ℕ,
-  List,
-  [],
-  length,
-  IfOk,
-  IfErr,
-  IfSome,
-  IsErrAnd,
-  Some,
-  Ok,
-};
+ghost use Rattle.osc_ends.specs.declared.status.TheConstants.{DONE, NO_MEMORY, REFUSED};
+ghost use Rattle.osc_ends.specs.declared.status.TheConstants.{SOURCE_FAILED};
+ghost use Rattle.std.specs.Prelude.{◌≡◌, ◌⊎◌, ◌≤◌, ◌<◌, ℕ, List, [], length, IfOk, IfErr, IfSome};
+ghost use Rattle.std.specs.Prelude.{IsErrAnd, Some, Ok};
 ghost use Rattle.osc_score.specs.Scores.{Note};
 ghost use Rattle.osc_score.specs.Plans.{plan_of};
 ghost use Rattle.osc_score.specs.Reading.{score_of};

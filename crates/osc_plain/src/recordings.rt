@@ -8,15 +8,8 @@ ghost use Rattle.osc_replay.specs.Formed.{IsFormed};
 ghost use Rattle.osc_replay.specs.Old.{IsOldRecordingOf};
 ghost use Rattle.osc_replay.specs.Upgrading.{upgraded_text};
 ghost use Rattle.osc_ends.specs.CommandEnds.{IsCommandsEnd};
-ghost use Rattle.osc_ends.specs.Recordings.{
-  EndsRecording,
-  DumpsTo,
-  RefusesForm,
-  RefusesRecording,
-  RefusesUpgrade,
-  ReplaysTo,
-  UpgradesTo,
-};
+ghost use Rattle.osc_ends.specs.Recordings.{EndsRecording, DumpsTo, RefusesForm, RefusesRecording};
+ghost use Rattle.osc_ends.specs.Recordings.{RefusesUpgrade, ReplaysTo, UpgradesTo};
 
 use osc_edge::{Sink, Source};
 use osc_ends::{read_recording, write_dump, write_replay, write_upgrade};

@@ -1,27 +1,9 @@
 //! The top call of `osc`.
 ghost use Rattle.osc_script.specs.declared.drawn_script.TheConstants.{MAX_GENERATED_LINES};
-ghost use Rattle.osc_ends.specs.declared.status.TheConstants.{
-  BANK_SHORT,
-  DONE,
-  NO_MEMORY,
-  RECORDING_FULL,
-  USAGE,
-};
-ghost use Rattle.std.specs.Prelude.{
-  ◌≡◌,
-  ◌⊎◌,
-  ◌≤◌,
-  IsTrue,
-  List,
-  IfSome,
-  IsOkAnd,
-  Some,
-  [],
-  None,
-  length,
-  map,
-  string_bytes,
-};
+ghost use Rattle.osc_ends.specs.declared.status.TheConstants.{BANK_SHORT, DONE, NO_MEMORY};
+ghost use Rattle.osc_ends.specs.declared.status.TheConstants.{RECORDING_FULL, USAGE};
+ghost use Rattle.std.specs.Prelude.{◌≡◌, ◌⊎◌, ◌≤◌, IsTrue, List, IfSome, IsOkAnd, Some, [], None};
+ghost use Rattle.std.specs.Prelude.{length, map, string_bytes};
 ghost use Rattle.osc_edge.specs.Faults.{Rose};
 ghost use Rattle.osc_core.specs.Ids.{is_ascending};
 ghost use Rattle.osc_words.specs.declared.command.PlainCommand.TheVariants.{Read};

@@ -12,9 +12,8 @@ ghost use Rattle.osc_replay.specs.declared.upgrade_text.UpgradeFault.TheVariants
 ghost use Rattle.osc_replay.specs.declared.upgrade_text.UpgradeFault.TheVariants.{NoMemory};
 ghost use Rattle.osc_replay.specs.Old.{IsOldRecordingOf, IsOldUnformedAt, OldLegal};
 ghost use Rattle.osc_replay.specs.Upgrading.{submits_in, upgraded, upgraded_text, OnOldMalformed};
-ghost use Rattle.osc_replay.specs.Upgrading.{OnTooLarge};
-ghost use Rattle.osc_replay.specs.Upgrading.{IsUpgradedUnlessShort, PrintsTheSame, texts_of};
-ghost use Rattle.osc_replay.specs.Upgrading.{DisagreesThere};
+ghost use Rattle.osc_replay.specs.Upgrading.{OnTooLarge, IsUpgradedUnlessShort, PrintsTheSame};
+ghost use Rattle.osc_replay.specs.Upgrading.{texts_of, DisagreesThere};
 
 use crate::old::well_formed_old;
 use osc_atoms::Bytes;

@@ -1,20 +1,7 @@
 // Plays the lanes of a script after a past, on the server that goes on from its recording.
 ghost use Rattle.osc_ends.specs.declared.status.TheConstants.{NO_MEMORY, SINK_FAILED};
-ghost use Rattle.std.specs.Prelude.{
-  ◌≡◌,
-  ◌≢◌,
-  ◌⊎◌,
-  ◌≤◌,
-  ◌<◌,
-  ◌^◌,
-  ℕ,
-  List,
-  length,
-  Ok,
-  IfOk,
-  IfSome,
-  None,
-};
+ghost use Rattle.std.specs.Prelude.{◌≡◌, ◌≢◌, ◌⊎◌, ◌≤◌, ◌<◌, ◌^◌, ℕ, List, length, Ok, IfOk};
+ghost use Rattle.std.specs.Prelude.{IfSome, None};
 ghost use Rattle.osc_model.specs.Events.{Entry};
 ghost use Rattle.osc_model.specs.Limits.{Limits, header_size, max_recording};
 ghost use Rattle.osc_script.specs.declared.mode.Mode.TheVariants.{Lanes};

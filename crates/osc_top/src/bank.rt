@@ -1,24 +1,10 @@
 // Deals a script's lines and a bank to lanes.
-ghost use Rattle.std.specs.Prelude.{
-  ◌≡◌,
-  ◌++◌,
-  ◌∷◌,
-  [],
-  ◌<◌,
-  ◌≤◌,
-  length,
-  map,
-  take,
-  drop,
-  replicate,
-  IfOk,
-  OnOk,
-};
+ghost use Rattle.std.specs.Prelude.{◌≡◌, ◌++◌, ◌∷◌, [], ◌<◌, ◌≤◌, length, map, take, drop};
+ghost use Rattle.std.specs.Prelude.{replicate, IfOk, OnOk};
 ghost use Rattle.std.specs.Vec.Iter.{into_iter_items};
 ghost use Rattle.osc_lanes.specs.Performs.{part_of};
-ghost use Rattle.osc_script.specs.Adds.{count_adds};
+ghost use Rattle.osc_script.specs.Adds.{count_adds, adds_of};
 ghost use Rattle.osc_top.specs.Lanes.{parts_of};
-ghost use Rattle.osc_script.specs.Adds.{adds_of};
 ghost use Rattle.osc_top.specs.Dealt.{dealt_at, no_part};
 
 use crate::counts::{is_add, lane_count};

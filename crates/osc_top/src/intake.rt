@@ -1,20 +1,6 @@
 // Takes in a past, and the script that is to be played after it.
-ghost use Rattle.osc_ends.specs.declared.status.TheConstants.{
-  NO_MEMORY,
-  REFUSED,
-  SOURCE_FAILED,
-};
-ghost use Rattle.std.specs.Prelude.{
-  ◌≡◌,
-  ◌≢◌,
-  ◌⊎◌,
-  ℕ,
-  List,
-  Some,
-  IfSome,
-  IfOk,
-  IfErr,
-};
+ghost use Rattle.osc_ends.specs.declared.status.TheConstants.{NO_MEMORY, REFUSED, SOURCE_FAILED};
+ghost use Rattle.std.specs.Prelude.{◌≡◌, ◌≢◌, ◌⊎◌, ℕ, List, Some, IfSome, IfOk, IfErr};
 ghost use Rattle.osc_edge.specs.Faults.{Rose};
 ghost use Rattle.osc_model.specs.Limits.{max_recording};
 ghost use Rattle.osc_script.specs.declared.script.TheConstants.{MAX_SCRIPT};

@@ -1,20 +1,6 @@
 //! What the definitions say of examples, and of a recording with room enough.
-ghost use Rattle.std.specs.Prelude.{
-  ◌≡◌,
-  ◌≤◌,
-  ◌<◌,
-  ◌+◌,
-  ◌*◌,
-  ◌∷◌,
-  [],
-  ℕ,
-  Bool,
-  List,
-  IsOkAnd,
-  codes,
-  length,
-  map,
-};
+ghost use Rattle.std.specs.Prelude.{◌≡◌, ◌≤◌, ◌<◌, ◌+◌, ◌*◌, ◌∷◌, [], ℕ, Bool, List, IsOkAnd};
+ghost use Rattle.std.specs.Prelude.{codes, length, map};
 ghost use Rattle.std.specs.List.{AllByRecursion};
 ghost use Rattle.osc_model.specs.Limits.{Limits};
 ghost use Rattle.osc_model.specs.Events.{Entry, added};

@@ -1,37 +1,11 @@
 //! The top call of many threads.
 ghost use Rattle.osc_links.specs.declared.limits.TheConstants.{MAX_LINKS};
-ghost use Rattle.osc_ends.specs.declared.status.TheConstants.{
-  BANK_SHORT,
-  DONE,
-  EDGE_FAILED,
-  NO_MEMORY,
-  REFUSED,
-  SINK_FAILED,
-  SOURCE_FAILED,
-  USAGE,
-};
-ghost use Rattle.std.specs.Prelude.{
-  ◌≡◌,
-  ◌≢◌,
-  ◌⊎◌,
-  ◌≤◌,
-  ◌<◌,
-  ℕ,
-  Bool,
-  true,
-  IsTrue,
-  IsOkAnd,
-  IsErrAnd,
-  IfSome,
-  Some,
-  None,
-  Ok,
-  List,
-  [],
-  length,
-  map,
-  string_bytes,
-};
+ghost use Rattle.osc_ends.specs.declared.status.TheConstants.{BANK_SHORT, DONE, EDGE_FAILED};
+ghost use Rattle.osc_ends.specs.declared.status.TheConstants.{NO_MEMORY, REFUSED, SINK_FAILED};
+ghost use Rattle.osc_ends.specs.declared.status.TheConstants.{SOURCE_FAILED, USAGE};
+ghost use Rattle.std.specs.Prelude.{◌≡◌, ◌≢◌, ◌⊎◌, ◌≤◌, ◌<◌, ℕ, Bool, true, IsTrue, IsOkAnd};
+ghost use Rattle.std.specs.Prelude.{IsErrAnd, IfSome, Some, None, Ok, List, [], length, map};
+ghost use Rattle.std.specs.Prelude.{string_bytes};
 ghost use Rattle.osc_edge.specs.Faults.{Rose};
 ghost use Rattle.osc_core.specs.Ids.{is_ascending};
 ghost use Rattle.osc_links.specs.Ticks.{clock_read};
@@ -51,16 +25,14 @@ ghost use Rattle.osc_top.specs.Edges.{TellsEdge};
 ghost use Rattle.osc_top.specs.EndsCommand.{EndsCommand, LeavesAlone, MayEnd};
 ghost use Rattle.osc_plain.specs.EndsPlain.{HandsBack};
 ghost use Rattle.osc_script.specs.Adds.{count_adds};
-ghost use Rattle.osc_ends.specs.Printing.{usage_text, refusal_text};
-ghost use Rattle.osc_ends.specs.Ends.{left_behind, IsUnplayed};
-ghost use Rattle.osc_ends.specs.Ends.{IsWritten};
+ghost use Rattle.osc_ends.specs.Printing.{usage_text, refusal_text, recorded_text};
+ghost use Rattle.osc_ends.specs.Ends.{left_behind, IsUnplayed, IsWritten};
 ghost use Rattle.osc_top.specs.Enough.{enough_lanes};
 ghost use Rattle.osc_top.specs.History.{RecordsHistory};
 ghost use Rattle.osc_top.specs.Watched.{EndsListed};
 ghost use Rattle.osc_ends.specs.Outcomes.{status_of};
 ghost use Rattle.osc_growing.specs.Growing.{HasGrown, IsWithin};
 ghost use Rattle.osc_top.specs.Recorded.{EndsBoth};
-ghost use Rattle.osc_ends.specs.Printing.{recorded_text};
 ghost use Rattle.osc_ends.specs.Sinks.{change, Fails, IsSteady, GainsUnless};
 
 use crate::caps::live_limits;

@@ -1,29 +1,9 @@
 //! The top call that goes on from a recording.
-ghost use Rattle.osc_ends.specs.declared.status.TheConstants.{
-  CALLERS_FULL,
-  DONE,
-  EDGE_FAILED,
-  NO_MEMORY,
-  SINK_FAILED,
-  SOURCE_FAILED,
-  USAGE,
-};
-ghost use Rattle.std.specs.Prelude.{
-  ◌≡◌,
-  ◌≢◌,
-  ◌⊎◌,
-  ◌≤◌,
-  ℕ,
-  IsTrue,
-  IfSome,
-  Some,
-  None,
-  List,
-  [],
-  length,
-  map,
-  string_bytes,
-};
+ghost use Rattle.osc_ends.specs.declared.status.TheConstants.{CALLERS_FULL, DONE, EDGE_FAILED};
+ghost use Rattle.osc_ends.specs.declared.status.TheConstants.{NO_MEMORY, SINK_FAILED};
+ghost use Rattle.osc_ends.specs.declared.status.TheConstants.{SOURCE_FAILED, USAGE};
+ghost use Rattle.std.specs.Prelude.{◌≡◌, ◌≢◌, ◌⊎◌, ◌≤◌, ℕ, IsTrue, IfSome, Some, None, List, []};
+ghost use Rattle.std.specs.Prelude.{length, map, string_bytes};
 ghost use Rattle.osc_edge.specs.Faults.{Rose};
 ghost use Rattle.osc_core.specs.Ids.{is_ascending};
 ghost use Rattle.osc_model.specs.Limits.{max_recording};
