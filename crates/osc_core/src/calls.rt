@@ -1,7 +1,7 @@
 // The calls that a release makes.
 ghost use Rattle.osc_model.specs.Limits.{max_methods, release_head_size};
-ghost use Rattle.std.specs.Prelude.{◌≡◌, ◌+◌, ◌*◌, ◌<◌, ◌≤◌, ◌^◌, ◌++◌, ◌∷◌, ℕ, List, length, map};
-ghost use Rattle.std.specs.Prelude.{take, Some, None, true, IsTrue, IfOk, IfErr, OnOk, OnErr};
+ghost use Rattle.std.specs.Prelude.{◌≡◌, ◌+◌, ◌*◌, ◌<◌, ◌≤◌, ◌^◌, ◌++◌, ◌∷◌, [], ℕ, List, length};
+ghost use Rattle.std.specs.Prelude.{map, take, Some, None, true, IsTrue, IfOk, IfErr, OnOk, OnErr};
 ghost use Rattle.std.specs.Prelude.{MatchBool, vec_len, vec_capacity};
 ghost use Rattle.osc_pattern.specs.Methods.{Method};
 ghost use Rattle.osc_record.specs.Writing.{recording_text, with_release};
@@ -14,7 +14,6 @@ ghost use Rattle.osc_model.specs.Calls.{call_by};
 ghost use Rattle.osc_core.specs.Ids.{is_ascending};
 ghost use Rattle.osc_core.specs.Telling.{told};
 ghost use Rattle.osc_core.specs.Recorded.{owed_by, with_hits, RecordsCalls, TellsRoom};
-ghost use Rattle.osc_tree.specs.Registry.{Registry};
 
 use crate::boxes::invoke_one;
 use crate::messages::Messages;
@@ -126,26 +125,56 @@ fn count_calls(tree: &Tree, hits: &mut Hits, kept: &mut Vec<u32>, messages: Mess
     ensures limit { hits.new.limit ≡ hits.old.limit }
 {
     kept.clear();
+    if messages.size() < MIN_COMPARED {
+        return count_each(tree, hits, kept, messages);
+    }
+    count_alike(tree, hits, kept, messages)
+}
+
+/// The same for a small unit: the methods of each message are found.
+fn count_each(tree: &Tree, hits: &mut Hits, kept: &mut Vec<u32>, messages: Messages<'_>) -> u64
+    requires limit { tree.now.method_limit ≤ hits.old.limit }
+    requires few { length messages < 2 ^ 32 }
+    requires few_methods { tree.now.method_limit ≤ max_methods }
+    requires cleared { kept.old.items ≡ [] }
+    ensures count { result ≡ length (calls_from tree.now.methods 0 messages.entry) }
+    ensures small { result < 2 ^ 48 }
+    ensures found { AreFound tree.now.methods messages.entry kept.new.items }
+    ensures limit { hits.new.limit ≡ hits.old.limit }
+{
     let mut count = 0;
     let mut is_whole = true;
-    let is_compared = messages.size() >= MIN_COMPARED;
-    let mut last: &[u8] = &[];
     for message in messages {
-        let (found, pattern) = count_next(tree, hits, last, &message);
-        last = compared(is_compared, pattern);
+        let found = count_hits(tree, hits, &message);
         is_whole = keep(is_whole, &hits.ids()[..found], kept);
         count += found as u64;
     }
     count
 }
 
-/// The pattern that the next one is compared with: this one, or none.
-#[inline(always)]
-fn compared(is_compared: bool, pattern: &[u8]) -> &[u8]
-    ensures { (tree : Registry) (ids : List ℕ) → StandFor tree pattern.now ids
-        → StandFor tree result.now ids }
+/// The same for a large unit: the methods are found once for messages that follow one another with
+/// one pattern.
+#[inline(never)]
+fn count_alike(tree: &Tree, hits: &mut Hits, kept: &mut Vec<u32>, messages: Messages<'_>) -> u64
+    requires limit { tree.now.method_limit ≤ hits.old.limit }
+    requires few { length messages < 2 ^ 32 }
+    requires few_methods { tree.now.method_limit ≤ max_methods }
+    requires cleared { kept.old.items ≡ [] }
+    ensures count { result ≡ length (calls_from tree.now.methods 0 messages.entry) }
+    ensures small { result < 2 ^ 48 }
+    ensures found { AreFound tree.now.methods messages.entry kept.new.items }
+    ensures limit { hits.new.limit ≡ hits.old.limit }
 {
-    if is_compared { pattern } else { &[] }
+    let mut count = 0;
+    let mut is_whole = true;
+    let mut last: &[u8] = &[];
+    for message in messages {
+        let (found, pattern) = count_next(tree, hits, last, &message);
+        last = pattern;
+        is_whole = keep(is_whole, &hits.ids()[..found], kept);
+        count += found as u64;
+    }
+    count
 }
 
 /// Keeps what a message calls, if all before it is kept and there is room.

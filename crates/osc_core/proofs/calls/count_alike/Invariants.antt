@@ -1,9 +1,9 @@
 use Rattle.std.proofs.Common.{◌≡◌, ℕ, ◌+◌, ◌*◌, ◌≤◌, ◌++◌, true, List, length}
 use Rattle.osc_model.specs.Step.{calls_from}
 use Rattle.osc_core.specs.Found.{AreFound, StandFor}
-use Rattle.osc_core.proofs.calls.count_calls.Given as goal
+use Rattle.osc_core.proofs.calls.count_alike.Given as goal
 
--- the calls so far and those of the messages that are left are as many as all, and what is kept of the others may stand behind what is kept so far
+-- the calls so far and those of the messages that are left are as many as all, and what is kept of the others may stand after what is kept so far
 abbrev pub invariant-loop-message : goal.invariant-loop-message
 invariant-loop-message l = record {
   can : (goal.iterator-loop-message).can_next l.message-iterator;

@@ -1,16 +1,16 @@
-use Rattle.std.proofs.Common.{◌≡◌, ℕ, ◌++◌, List, [], length, map, take, refl, sym, ap, subst, ◌∙◌, arith, rules}
+use Rattle.std.proofs.Common.{◌≡◌, ℕ, ◌++◌, List, [], length, map, take, refl, sym, ap, subst, ◌∙◌, arith}
 use Rattle.osc_model.specs.Calls.{call_by}
 use Rattle.osc_model.specs.Step.{calls_of, calls_from}
 use Rattle.osc_core.proofs.Invoking.{unit_counted}
 use Rattle.osc_core.specs.Found.{AreFound}
 use Rattle.osc_core.proofs.Keeping.{kept_on, nothing_found}
-use Rattle.osc_core.proofs.calls.count_calls.Goals as goal
+use Rattle.osc_core.proofs.calls.count_alike.Goals as goal
 
 pub loop-message-init : goal.loop-message-init
 loop-message-init c =
     let methods = c.args.tree.now.methods in
     let messages = c.args.messages in
-    let cleared : c.clear.new.self.items ≡ [] = search rules in
+    let cleared : c.args.kept.now.items ≡ [] = c.requires.cleared in
     let all : c.into_iter-message-iterator.result ≡ messages = c.into_iter-message-iterator.ensures.into_iter_gives in
     record {
       can = tt;
@@ -43,6 +43,6 @@ loop-message-preserved c =
       small = omega (arith, ap length c.in-Some.ensures.steps, c.count_next-found.ensures.few, c.requires.few_methods, c.loop-message.invariant.small);
       found = on.0;
       further = on.1;
-      stand = c.compared-last.ensures c.args.tree.now _ c.count_next-found.ensures.stand;
+      stand = c.count_next-found.ensures.stand;
       limit = c.count_next-found.ensures.limit ∙ c.loop-message.invariant.limit;
     }
