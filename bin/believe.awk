@@ -18,7 +18,7 @@ function keep_paragraph(   head, name, line, count, lines, i) {
             for (i = 1; i <= count; i++) if (match(lines[i], /^ +[a-z_0-9]+ :/)) {
                 line = lines[i]
                 gsub(/^ +| :.*$/, "", line)
-                type_of[module SUBSEP line] = key
+                type_of[module, line] = key
             }
         }
     }
@@ -68,14 +68,34 @@ function resolve(where, word,   parts, count, pair, key) {
     return key in text ? key : ""
 }
 
+# Notes the words that a text binds, as parameters of its equations and after a lambda: none of them names a constructor there.
+function bind(body,   lines, count, i, rest, names, many, k) {
+    split("", bound)
+    count = split(body, lines, "\n")
+    for (i = 1; i <= count; i++) {
+        rest = lines[i]
+        if (match(rest, /^ *[A-Za-z_][A-Za-z_0-9'-]*( +[a-z_][A-Za-z_0-9'-]*)+ =/)) {
+            many = split(substr(rest, RSTART, RLENGTH - 2), names, / +/)
+            for (k = 2; k <= many; k++) bound[names[k]] = 1
+        }
+        while (match(rest, /λ [a-z_][a-z_0-9' -]*\./)) {
+            many = split(substr(rest, RSTART, RLENGTH - 1), names, / +/)
+            for (k = 2; k <= many; k++) bound[names[k]] = 1
+            rest = substr(rest, RSTART + RLENGTH)
+        }
+    }
+}
+
 # Puts the definitions that a text names after those that are there.
-function visit(where, body,   lines, count, i, rest, key) {
+function visit(where, body,   lines, count, i, rest, key, word) {
+    bind(body)
     count = split(body, lines, "\n")
     for (i = 1; i <= count; i++) {
         rest = lines[i]
         sub(/(--|\/\/).*$/, "", rest)
         while (match(rest, /[A-Za-z_][A-Za-z_0-9'-]*(\.[A-Za-z_][A-Za-z_0-9'-]*)*/)) {
-            key = resolve(where, substr(rest, RSTART, RLENGTH))
+            word = substr(rest, RSTART, RLENGTH)
+            key = word in bound && (where, word) in type_of ? "" : resolve(where, word)
             rest = substr(rest, RSTART + RLENGTH)
             if (key != "" && !(key in seen) && !(shown[key] in left_out)) { seen[key] = 1; order[++last] = key }
         }
