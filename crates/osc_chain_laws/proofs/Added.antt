@@ -22,7 +22,7 @@ use Rattle.osc_script.specs.Adds.{adds_of, count_adds}
 use Rattle.osc_script.specs.declared.act.Act.{Act}
 use Rattle.osc_script.specs.declared.act.Act.TheVariants.{Add, Remove, Send, Tick, Pump}
 use Rattle.osc_script.specs.declared.line.Line.{Line}
-use Rattle.osc_score.specs.Scripted.{adds}
+use Rattle.osc_score.proofs.Acts.{adds}
 use Rattle.osc_score_laws.specs.Heard.{NoneIsRefused}
 use Rattle.osc_player.specs.Plain.{entry_of, entry_if, entries_of, stop_of, act_faults, LineFault, Played, followed, plain_from}
 use Rattle.osc_turn.specs.declared.view.Entry.{Entry as Seen}

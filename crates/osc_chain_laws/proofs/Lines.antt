@@ -11,7 +11,7 @@ use Rattle.osc_script.specs.declared.act.Act.TheVariants.{Add, Send, Tick}
 use Rattle.osc_script.specs.declared.line.Line.{Line}
 use Rattle.osc_script.specs.Adds.{is_add}
 use Rattle.osc_script.specs.Written.{numbered}
-use Rattle.osc_score.specs.Scripted.{adds}
+use Rattle.osc_score.proofs.Acts.{adds}
 use Rattle.osc_carry.specs.Carried.{packet_of, ticks_to, queue_acts, carried_acts}
 use Rattle.osc_alike.specs.Alike.{address_of}
 use Rattle.osc_relay.specs.declared.outlet.Outlet.{Ghosts}

@@ -16,7 +16,7 @@ use Rattle.osc_script.specs.declared.act.Act.TheVariants.{Add, Remove, Send, Tic
 use Rattle.osc_script.specs.declared.line.Line.{Line}
 use Rattle.osc_script.specs.Written.{numbered}
 use Rattle.osc_player.specs.Plain.{entry_of, entry_if, sent, entries_of, stop_of, act_faults, LineFault, Played, followed, plain_from}
-use Rattle.osc_score.specs.Scripted.{adds}
+use Rattle.osc_score.proofs.Acts.{adds}
 use Rattle.osc_score_laws.proofs.Lists.{all_on}
 use Rattle.osc_carry.specs.Carried.{packet_of, ticks_to, queue_acts, carried_acts}
 use Rattle.osc_alike.specs.Alike.{address_of}
