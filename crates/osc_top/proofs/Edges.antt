@@ -101,7 +101,7 @@ module _ {M L : Type 0} (keep : M → Fixed) (heard : M → Option (List ℕ)) (
       × PlaysIn command lines recording text outcome × GainsAll rec recording × GainsAll out text
   written_by command script ends written = written_of (mode_of command) (PlaysIn command) script (length bank) rec out status ends written
 
-  -- want of memory ends any script of any command
+  -- any script of any command may end out of memory
   pub live_short : (said : Option LiveCommand) (source : Option (List ℕ)) → status ≡ 3
       → IfSome said (λ command. status ≢ 4 → OfInput source (EndsSo command))
   live_short None source is = tt

@@ -1,5 +1,6 @@
 -- The box of a line that adds a method, and the one that is kept under its id, have one mark.
-use Rattle.std.proofs.Common.{◌≡◌, ℕ, zero, suc, ◌+◌, ◌<◌, ◌≤◌, Bool, true, false, List, [], ◌∷◌, Option, Some, None, inl, inr, refl, ap, subst, sym, ◌∙◌, arith}
+use Rattle.std.proofs.Common.{◌≡◌, ℕ, zero, suc, ◌+◌, ◌<◌, ◌≤◌, Bool, true, false, List, [], ◌∷◌, Option, Some, None, inl, inr}
+use Rattle.std.proofs.Common.{refl, ap, subst, sym, ◌∙◌, arith}
 use Rattle.std.specs.List.{AllByRecursion, Contains, cons_option}
 use Rattle.osc_method.specs.Heard.{Fixed}
 use Rattle.osc_model.specs.Limits.{Limits, AreInRange}
@@ -105,7 +106,8 @@ module _ {M : Type 0} (keep : M → Fixed) (heard : M → Option (List ℕ)) whe
       → (plays : PlaysLanes keep heard caps watched bank boxes_heard boxes_left lines recording text outcome)
       → (act : PlaysAct keep heard holder number (Add address) boxes left account here there) → act.1 ≡ added id
       → StartsWith plays.performs.history there → AllByRecursion (HasMarkOfLine id act.0) boxes_heard
-  new_boxes laws caps watched lines bank boxes_heard boxes_left recording text outcome holder number address boxes left account here there id plays act adds starts =
+  new_boxes laws caps watched lines bank boxes_heard boxes_left recording text outcome holder number address boxes left account here there id plays act
+      adds starts =
       let history = plays.performs.history in
       each_box laws caps history there plays.performs.stage.legal plays.performs.closed.ascending starts id act.0
       (added_mark holder number address boxes left account here there act id adds) boxes_heard
@@ -118,8 +120,8 @@ module _ {M : Type 0} (keep : M → Fixed) (heard : M → Option (List ℕ)) whe
       → (plays : PlaysResumed keep heard caps before bank boxes_heard boxes_left lines recording text outcome)
       → (act : PlaysAct keep heard holder number (Add address) boxes left account here there) → act.1 ≡ added id
       → StartsWith plays.performs.history there → added_in before ≤ id → AllByRecursion (HasMarkOfLine id act.0) boxes_heard
-  later_boxes stays opens laws caps before lines bank boxes_heard boxes_left recording text outcome holder number address boxes left account here there id plays act
-      adds starts new =
+  later_boxes stays opens laws caps before lines bank boxes_heard boxes_left recording text outcome holder number address boxes left account here there id plays
+      act adds starts new =
       let history = plays.performs.history in
       let legal : Legal caps (history_in (texts history)) = plays.performs.stage.legal in
       let whole = history_since plays.past before history plays.performs.stage.since plays.past_is plays.performs.stage.goes_on in

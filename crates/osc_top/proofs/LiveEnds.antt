@@ -306,7 +306,8 @@ module _ {M L : Type 0} (keep : M → Fixed) (heard : M → Option (List ℕ)) (
 
   -- where nothing stops that has room enough, it isn't full then
   module _ (caps : Capacities) (watch : Bool) (never : (lines : List Line) (recording text : List ℕ) (outcome : Outcome)
-      → PlaysLanes keep heard (live_limits caps) watch bank added rest lines recording text outcome → enough_lanes lines ≤ caps.recording → outcome ≡ Done) where
+      → PlaysLanes keep heard (live_limits caps) watch bank added rest lines recording text outcome
+      → enough_lanes lines ≤ caps.recording → outcome ≡ Done) where
     -- there are boxes and room enough
     abbrev AreEnough : List Line → Type 0
     AreEnough lines = (count_adds lines ≤ length bank) × (enough_lanes lines ≤ caps.recording)

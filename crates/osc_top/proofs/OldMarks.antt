@@ -155,10 +155,14 @@ module _ {M : Type 0} (keep : M → Fixed) (heard : M → Option (List ℕ)) whe
         standing : (one : ℕ × M) → CarriesMark there one.0 (mark_of (known_of keep heard one.0 one.1)) → one.0 < added_in before
             → Contains (map (λ m. m.id) (after (opening caps) before).methods) one.0 → HasMarkOf keep heard bank one
         standing one carries below held = go (slice_get_cases bank one.0).1 where
-          go : ((x : M) × (one.0 < length bank) × (slice_get bank one.0 ≡ Some x) × (get_or bank one.0 x ≡ x)) ⊎ ((length bank ≤ one.0) × (slice_get bank one.0 ≡ None))
-              → HasMarkOf keep heard bank one
-          go (inl (method, within, is, at)) =
-              (method, is, one_mark there one.0 _ _ (read_again laws caps there legal) plays.performs.closed.ascending carries (plays.bank_marks one.0 method is held))
+          go : ((x : M) × (one.0 < length bank) × (slice_get bank one.0 ≡ Some x) × (get_or bank one.0 x ≡ x))
+              ⊎ ((length bank ≤ one.0) × (slice_get bank one.0 ≡ None)) → HasMarkOf keep heard bank one
+          go (inl (method, within, is, at)) = (
+            method,
+            is,
+            one_mark there one.0 _ _ (read_again laws caps there legal) plays.performs.closed.ascending carries
+                (plays.bank_marks one.0 method is held),
+          )
           go (inr (past, none)) = absurd (omega (arith, past, below, enough))
 
         one_first : (one : ℕ × M) → Old one × New one → one.0 < added_in before → HasMarkOf keep heard bank one
@@ -166,6 +170,7 @@ module _ {M : Type 0} (keep : M → Fixed) (heard : M → Option (List ℕ)) whe
           go : Contains (removed_in before) one.0 ⊎ (Contains (removed_in before) one.0 → ⊥) → HasMarkOf keep heard bank one
           go (inl gone) = old gone
           go (inr stays_in) = either_way (registered_or_removed stays opens caps before past_legal one.0 below) where
-            either_way : Contains (map (λ m. m.id) (after (opening caps) before).methods) one.0 ⊎ Contains (removed_in before) one.0 → HasMarkOf keep heard bank one
+            either_way : Contains (map (λ m. m.id) (after (opening caps) before).methods) one.0 ⊎ Contains (removed_in before) one.0
+                → HasMarkOf keep heard bank one
             either_way (inl held) = standing one (new stays_in) below held
             either_way (inr gone) = old gone

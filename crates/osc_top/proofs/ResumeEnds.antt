@@ -1,5 +1,6 @@
 -- How a program ends that goes on from a recording, from how its parts end.
-use Rattle.std.proofs.Common.{◌≡◌, ◌≢◌, ◌⊎◌, inl, inr, ⊎_elim, ℕ, ◌+◌, ◌<◌, ◌≤◌, ◌==◌, ◌^◌, Bool, true, false, cond, ◌||◌, List, [], ◌∷◌, ◌++◌, length, map, Option, Some}
+use Rattle.std.proofs.Common.{◌≡◌, ◌≢◌, ◌⊎◌, inl, inr, ⊎_elim, ℕ, ◌+◌, ◌<◌, ◌≤◌, ◌==◌, ◌^◌, Bool, true, false, cond, ◌||◌}
+use Rattle.std.proofs.Common.{List, [], ◌∷◌, ◌++◌, length, map, Option, Some}
 use Rattle.std.proofs.Common.{None, IfSome, IsOkAnd, Result, Ok, Err, refl, sym, ap, subst, ◌∙◌, arith, max}
 use Rattle.std.proofs.Math.Nat.{le-max_left}
 use Rattle.std.specs.Option.{option_or}
@@ -94,7 +95,7 @@ written_played outcome status recording text rec out stops both unresumed = go b
   go (inr (inl three)) = not_unresumed status 3 three refl unresumed
   go (inr (inr five)) = not_unresumed status 5 five refl unresumed
 
--- want of memory leaves nothing as it was
+-- out of memory promises nothing
 pub short_played : (status : ℕ) → status ≡ 3 → IsUnresumed status → ⊥
 short_played status three unresumed = not_unresumed status 3 three refl unresumed
 
@@ -226,7 +227,8 @@ module _ (plays : Limits → List Entry → List Line → List ℕ → List ℕ 
   resumed_refused status decided same (inr (inl is)) read refused lawful = resumed_short status (same ∙ is)
   resumed_refused status decided same (inr (inr is)) read refused lawful = absurd (read (same ∙ is))
 
-  module _ (lines : List Line) (is : script_of Lanes script ≡ Ok lines) (caps : Limits) (before : List Entry) (recording_of : IsRecordingOf bytes caps before) where
+  module _ (lines : List Line) (is : script_of Lanes script ≡ Ok lines) (caps : Limits) (before : List Entry)
+      (recording_of : IsRecordingOf bytes caps before) where
     of_both : (P : Limits → List Entry → List Line → Type 0) → P caps before lines → OfBoth bytes script P
     of_both P holds = (caps, before, recording_of, ok_so (script_of Lanes script) lines (P caps before) is holds)
 
@@ -401,7 +403,7 @@ module _ {M : Type 0} (keep : M → Fixed) (heard : M → Option (List ℕ)) whe
   resumed_stops caps before bank added left lines recording text outcome plays =
       subst (λ (o : Outcome). IsResumed (status_of o)) (sym plays.outcome_is) (stop_resumes (option_or plays.unenrolled (first_stop plays.accounts)))
 
-  -- want of memory ends any command
+  -- any command may end out of memory
   pub resumed_none : (bank : List M) (added : List (ℕ × M)) (left : List M) (status have : ℕ) (rec out : SinkChange) (said : Option ResumeCommand)
       (past input : Option (List ℕ)) → status ≡ 3
       → IfSome said (λ command. status ≢ 4 → OfInputs past input (λ bytes script.
@@ -429,8 +431,8 @@ module _ {M : Type 0} (keep : M → Fixed) (heard : M → Option (List ℕ)) whe
     resumed_end can script is =
         subst (λ (l : List M). EndsResumed (λ caps before lines. PlaysResumed keep heard (roomier caps room) before bank added l lines) status bytes script
         (length bank) rec out) (sym left_so)
-        (subst (λ (a : List (ℕ × M)). EndsResumed (λ caps before lines. PlaysResumed keep heard (roomier caps room) before bank a kept lines) status bytes script
-        (length bank) rec out) (sym added_so)
+        (subst (λ (a : List (ℕ × M)). EndsResumed (λ caps before lines. PlaysResumed keep heard (roomier caps room) before bank a kept lines) status bytes
+        script (length bank) rec out) (sym added_so)
         (resumed_written (λ caps before lines. PlaysResumed keep heard (roomier caps room) before bank played kept lines) bytes script (length bank) rec out
         lines is caps before can.recording_of (roomier caps room) recording said outcome status staged can.enough staged_stops both))
 

@@ -116,11 +116,13 @@ module _ {M : Type 0} where
   each_moved P xs ys moved each = recursion_from_All P ys (All-permutation P xs ys moved (All-from_recursion P xs each))
 
   module _ (keep : M → Fixed) (heard : M → Option (List ℕ)) where
-    pub told_each : (P : Told → Type 0) (xs : List (ℕ × M)) → AllByRecursion P (told keep heard xs) → AllByRecursion (λ one. P (known_of keep heard one.0 one.1)) xs
+    pub told_each : (P : Told → Type 0) (xs : List (ℕ × M)) → AllByRecursion P (told keep heard xs)
+        → AllByRecursion (λ one. P (known_of keep heard one.0 one.1)) xs
     told_each P [] each = tt
     told_each P (x ∷ xs) each = (each.0, told_each P xs each.1)
 
-    pub each_told : (P : Told → Type 0) (xs : List (ℕ × M)) → AllByRecursion (λ one. P (known_of keep heard one.0 one.1)) xs → AllByRecursion P (told keep heard xs)
+    pub each_told : (P : Told → Type 0) (xs : List (ℕ × M)) → AllByRecursion (λ one. P (known_of keep heard one.0 one.1)) xs
+        → AllByRecursion P (told keep heard xs)
     each_told P [] each = tt
     each_told P (x ∷ xs) each = (each.0, each_told P xs each.1)
 
@@ -223,8 +225,9 @@ module _ {M : Type 0} where
       pub links_staged : (caps : Limits) (bounds : Bounds) (lines : List Line) (bank : List M) (links : List L) (clock : ClockRead) (hosted : Hosted M L)
           (added : List (ℕ × M)) → Hosts turns faults keep heard caps bounds (adds_part lines bank) links clock hosted
           → IsPermutation (hosted.closed.kept.items ++ hosted.opening.removed.items) added → IsNonDecreasingBy (λ one. one.0) added → (left rest : List M)
-          (links_after : List L) (recording said : List ℕ) (outcome : Outcome) → recording ≡ hosted.closed.bytes.items → left ≡ hosted.opening.back.items ++ rest
-          → rest ≡ drop (count_adds lines) bank → links_after ≡ hosted.links.links.items → said ≡ link_faults hosted.links.faults.items
+          (links_after : List L) (recording said : List ℕ) (outcome : Outcome) → recording ≡ hosted.closed.bytes.items
+          → left ≡ hosted.opening.back.items ++ rest → rest ≡ drop (count_adds lines) bank
+          → links_after ≡ hosted.links.links.items → said ≡ link_faults hosted.links.faults.items
           → outcome ≡ served hosted.links.failed hosted.links.clock_failed
           (option_map room_of (option_or hosted.opening.stop (option_or hosted.unenrolled hosted.links.stop)))
           → IsStaged (PlaysLinks keep heard turns faults caps bounds bank links clock added left links_after lines) caps recording said outcome

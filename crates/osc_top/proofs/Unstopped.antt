@@ -1,5 +1,6 @@
 -- A recording of as many bytes as `enough_lanes` says stops no lane of a script.
-use Rattle.std.proofs.Common.{◌≡◌, ℕ, zero, suc, ◌+◌, ◌*◌, ◌<◌, ◌≤◌, ◌==◌, Bool, true, false, List, [], ◌∷◌, length, All, Option, None, sum_by, refl, sym, ap, subst}
+use Rattle.std.proofs.Common.{◌≡◌, ℕ, zero, suc, ◌+◌, ◌*◌, ◌<◌, ◌≤◌, ◌==◌, Bool, true, false, List, [], ◌∷◌, length, All, Option, None, sum_by}
+use Rattle.std.proofs.Common.{refl, sym, ap, subst}
 use Rattle.std.proofs.Common.{◌∙◌, arith}
 use Rattle.std.specs.Option.{option_or}
 use Rattle.std.proofs.lemmas.Bool.Decides.{nat_tests}
@@ -25,7 +26,7 @@ use Rattle.osc_top.proofs.Dealt.{lines_here, lines_other, parts_length}
 -- Each line is in one part.
 
 module _ {M : Type 0} (weight : Line → ℕ) (bank : List M) where
-  -- what the lines of so many parts, from this lane on, come to
+  -- what the lines of so many parts, from this lane on, add up to
   abbrev weights : ℕ → ℕ → List Line → ℕ
   weights lane count lines = sum_by weight (all_lines (parts_from lane count lines bank))
 
@@ -116,7 +117,8 @@ module _ {M : Type 0} where
       → ((caps : Limits) (parts : List (Part M)) (recording : List ℕ) (kept : List (ℕ × M)) (accounts : List (Account M)) (unenrolled : Option Room)
       → Performs keep heard caps parts recording kept accounts unenrolled → enough_for parts ≤ caps.recording
       → (unenrolled ≡ None) × All (λ account. account.stop ≡ None) accounts)
-      → (caps : Limits) (watched : Bool) (lines : List Line) (bank : List M) (added : List (ℕ × M)) (left : List M) (recording text : List ℕ) (outcome : Outcome)
+      → (caps : Limits) (watched : Bool) (lines : List Line) (bank : List M) (added : List (ℕ × M)) (left : List M)
+      (recording text : List ℕ) (outcome : Outcome)
       → PlaysLanes keep heard caps watched bank added left lines recording text outcome → enough_lanes lines ≤ caps.recording → outcome ≡ Done
   none_stopped keep heard never caps watched lines bank added left recording text outcome plays enough =
       let none = never caps (parts_of lines bank) recording plays.kept plays.accounts plays.unenrolled plays.performs

@@ -14,7 +14,7 @@ use Rattle.osc_ends.specs.Sinks.{SinkChange}
 use Rattle.osc_top.specs.EndsResumed.{AreEnough, IsUnresumed}
 use Rattle.osc_top.specs.Lanes.{lane_count}
 
--- how many boxes, and how many callers, by what a check told of a past
+-- how many boxes, and how many callers, by what a check found of a past
 abbrev pub boxes_told : Checked → List Line → ℕ
 boxes_told checked lines = checked.adds + count_adds lines
 

@@ -1,4 +1,4 @@
--- What failed of links and a clock, and what is told of it.
+-- What failed of links and a clock, and the line on it.
 use Rattle.std.specs.Prelude.{ℕ, List, ◌++◌}
 use Rattle.osc_edge.specs.Faults.{Rose}
 use Rattle.osc_links.specs.Faults.{HasLinkRisen}

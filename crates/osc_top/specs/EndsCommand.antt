@@ -7,7 +7,8 @@ use Rattle.osc_script.specs.declared.line.Line.{Line}
 use Rattle.osc_words.specs.declared.command.Capacities.{Capacities}
 use Rattle.osc_words.specs.declared.command.LiveCommand.{LiveCommand}
 use Rattle.osc_words.specs.declared.command.LiveCommand.TheVariants as live
-use Rattle.osc_ends.specs.declared.status.TheConstants.{DONE, EDGE_FAILED, NO_MEMORY, RECORDING_FULL}
+use Rattle.osc_ends.specs.declared.status.TheConstants.{DONE, EDGE_FAILED, NO_MEMORY}
+use Rattle.osc_ends.specs.declared.status.TheConstants.{RECORDING_FULL}
 use Rattle.osc_ends.specs.declared.outcome.Outcome.{Outcome}
 use Rattle.osc_top.specs.Commands.{mode_of}
 use Rattle.osc_ends.specs.Ends.{IsUnplayed}

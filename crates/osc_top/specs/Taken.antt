@@ -13,7 +13,7 @@ use Rattle.osc_ends.specs.Printing.{refusal_text}
 use Rattle.osc_ends.specs.Sinks.{SinkChange, GainsUnless}
 use Rattle.osc_top.specs.declared.intake.Taken.{Taken}
 
--- what holds of the bytes that two inputs have left, or of some where one doesn't tell them
+-- what holds of the bytes that two inputs have left, or of some where one doesn't report them
 abbrev pub OfInputs : Option (List ℕ) → Option (List ℕ) → (List ℕ → List ℕ → Type 0) → Type 0
 OfInputs past input P =
     (bytes : List ℕ) × (script : List ℕ) × IfSome past (λ all. bytes ≡ all)

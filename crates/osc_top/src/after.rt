@@ -19,11 +19,13 @@ use crate::counts::lane_count;
 use crate::intake::Taken;
 use crate::lanes::settle;
 use crate::live::unplayed;
-use crate::outputs::end_resumed;
+use crate::outputs::end;
 use crate::played::Played;
+use crate::venue::Venue;
 use osc_edge::Sink;
 use osc_ends::status::NO_MEMORY;
 use osc_ends::{Ended, bank_short, callers_full, count_adds};
+use osc_growing::Growth;
 use osc_lanes::{Gate, resume_lanes};
 use osc_live::{Live, LiveResumed};
 use osc_method::Method;
@@ -33,17 +35,15 @@ use std::alloc::{AllocError, Global};
 use std::sync::Wait;
 use std::thread::Threads;
 
-/// Plays the lines after the past, if there are boxes and callers enough, with room for so many bytes of recording at
-/// least.
+/// Plays the lines after the past, if there are boxes and callers enough, with room for so many
+/// bytes of recording at least.
 pub(crate) fn play_after<O: Sink, R: Sink, W: Threads + Wait + Sync, G: Gate + Sync>(
-    rt: &W,
-    alloc: Global,
+    venue: &Venue<'_, W, G>,
     room: u32,
     taken: Taken<'_>,
+    bank: Vec<Box<dyn Method + Send>>,
     out: &mut O,
     rec: &mut R,
-    bank: Vec<Box<dyn Method + Send>>,
-    gate: &G,
 ) -> Ended
     requires room { (header_size ≤ room) × (room ≤ max_recording) }
     requires past { IsPast taken.past }
@@ -60,19 +60,20 @@ pub(crate) fn play_after<O: Sink, R: Sink, W: Threads + Wait + Sync, G: Gate + S
 {
     osc_model::laws::a_server_stays_sound();
     osc_model::laws::callers_are_counted();
+    let alloc = venue.alloc;
     let Taken { past, lines } = taken;
     let checked = past.checked();
     if let Some(status) = refuse_short(alloc, checked, &lines, bank.len(), out) {
         return unplayed(alloc, status, bank);
     }
-    match stage_after(rt, alloc, past.recording(), room, lines, bank, gate) {
-        Ok(played) => end_resumed(alloc, past, played, out, rec),
+    match stage_after(venue, past.recording(), room, lines, bank) {
+        Ok(played) => end(alloc, played, Growth::Written(0), Some(past), out, rec),
         Err(_) => unplayed(alloc, NO_MEMORY, Vec::new(alloc)),
     }
 }
 
-/// The status with which the program ends where there are too few boxes or callers, of which a line is written: 8, 9 or
-/// out of memory.
+/// The status with which the program ends where there are too few boxes or callers, of which a line
+/// is written: 8, 9 or out of memory.
 fn refuse_short<O: Sink>(
     alloc: Global,
     checked: Checked,
@@ -82,8 +83,7 @@ fn refuse_short<O: Sink>(
 ) -> Option<u8>
     requires few { (boxes_told checked lines.now < 2 ^ 64)
         × (callers_told checked lines.now < 2 ^ 64) }
-    ensures reaches { Reaches result checked lines.now boxes
-        (change O.Sink out.old out.new) }
+    ensures reaches { Reaches result checked lines.now boxes (change O.Sink out.old out.new) }
     ensures unwritten { result ≡ None → out.new ≡ out.old }
     ensures decided { IfSome result (λ status. status ≢ SINK_FAILED) }
 {
@@ -99,16 +99,15 @@ fn refuse_short<O: Sink>(
     None
 }
 
-/// Plays the lanes of the lines at the same time on the server that goes on from the past. The k-th method that the
-/// past adds has the k-th box, and the k-th add of the lines the k-th after these. An `Err` means out of memory.
+/// Plays the lanes of the lines at the same time on the server that goes on from the past. The k-th
+/// method that the past adds has the k-th box, and the k-th add of the lines the k-th after these.
+/// An `Err` means out of memory.
 fn stage_after<M: Method + Send, W: Threads + Wait + Sync, G: Gate + Sync>(
-    rt: &W,
-    alloc: Global,
+    venue: &Venue<'_, W, G>,
     past: &[u8],
     room: u32,
     lines: Vec<Line>,
     bank: Vec<M>,
-    gate: &G,
 ) -> Result<Played<M>, AllocError>
     requires room { (header_size ≤ room) × (room ≤ max_recording) }
     requires enough { (caps : Limits) × (before : List Entry)
@@ -122,6 +121,7 @@ fn stage_after<M: Method + Send, W: Threads + Wait + Sync, G: Gate + Sync>(
         played.recorded.outcome) }
 {
     osc_model::laws::a_method_is_called_while_it_is_registered();
+    let Venue { rt, alloc, gate } = *venue;
     let LiveResumed {
         live,
         callers,

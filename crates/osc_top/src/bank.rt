@@ -13,8 +13,8 @@ use osc_script::{Act, Line};
 use std::alloc::{AllocError, Global};
 use std::vec::IntoIter;
 
-/// The lines and the boxes lane by lane, the k-th box for the k-th line that adds a method; and the boxes that no line
-/// takes. An `Err` means out of memory.
+/// The lines and the boxes lane by lane, the k-th box for the k-th line that adds a method; and the
+/// boxes that no line takes. An `Err` means out of memory.
 pub(crate) fn deal<M: Drop>(
     alloc: Global,
     lines: Vec<Line>,

@@ -26,8 +26,8 @@ pub(crate) struct Taken<'a> {
     pub(crate) lines: Vec<Line>,
 }
 
-/// Reads a past and then a script, each to its end. The `Err` is the status with which the program ends: 3 or 4. The
-/// script isn't read where the past's source failed.
+/// Reads a past and then a script, each to its end. The `Err` is the status with which the program
+/// ends: 3 or 4. The script isn't read where the past's source failed.
 pub(crate) fn read_both<P: Source, S: Source>(
     alloc: Global,
     past: &mut P,
@@ -58,8 +58,8 @@ pub(crate) fn read_both<P: Source, S: Source>(
     Ok((past, script))
 }
 
-/// Judges a past, and then a script. The `Err` is the status with which the program ends: 1, where one of them is
-/// refused, of which lines are written, or 3.
+/// Judges a past, and then a script. The `Err` is the status with which the program ends: 1, where
+/// one of them is refused, of which lines are written, or 3.
 pub(crate) fn judge_both<'a, O: Sink>(
     alloc: Global,
     past: &'a Whole,

@@ -18,6 +18,7 @@ ghost use Rattle.osc_top.specs.Staged.{IsStaged};
 use crate::bank::deal;
 use crate::list::{Listed, play_parts};
 use crate::played::Played;
+use crate::venue::Venue;
 use osc_atoms::{Fault, Room};
 use osc_ends::{Recorded, stopped};
 use osc_lanes::{Gate, LaneTold, Performed};
@@ -31,16 +32,15 @@ use std::sync::Wait;
 use std::thread::Threads;
 use std::vec::IntoIter;
 
-/// Plays the lanes of the lines on a new server, at the same time, and if `watch` says so with a watcher next to them,
-/// whose list stands after the lines of the faults; the k-th add gets the k-th box. An `Err` means out of memory.
+/// Plays the lanes of the lines on a new server, at the same time, and if `watch` says so with a
+/// watcher next to them, whose list stands after the lines of the faults; the k-th add gets the
+/// k-th box. An `Err` means out of memory.
 pub(crate) fn stage<M: Method + Send, W: Threads + Wait + Sync, G: Gate + Sync>(
-    rt: &W,
-    alloc: Global,
+    venue: &Venue<'_, W, G>,
     caps: Caps,
     watch: bool,
     lines: Vec<Line>,
     bank: Vec<M>,
-    gate: &G,
 ) -> Result<Played<M>, AllocError>
     requires callers { caps.callers ≡ LIVE_CALLERS }
     requires enough { count_adds lines.items ≤ length bank.items }
@@ -51,16 +51,17 @@ pub(crate) fn stage<M: Method + Send, W: Threads + Wait + Sync, G: Gate + Sync>(
         played.left.items lines.items)
         caps played.recorded.bytes.items played.recorded.faults played.recorded.outcome) }
 {
+    let alloc = venue.alloc;
     let (parts, rest) = deal(alloc, lines, bank)?;
-    let listed = play_parts(rt, alloc, caps, watch, parts, gate)?;
+    let listed = play_parts(venue, caps, watch, parts)?;
     let Listed { performed, list } = listed;
     let mut played = settle(alloc, performed, Vec::new(alloc), rest)?;
     played.recorded.faults.word(list.bytes())?;
     Ok(played)
 }
 
-/// Puts together what the lanes tell. The boxes that were removed before are among those that heard, and the boxes that
-/// no lane got among those that are left.
+/// Puts together what the lanes report. The boxes that were removed before are among those that
+/// heard, and the boxes that no lane got among those that are left.
 pub(crate) fn settle<M: Method>(
     alloc: Global,
     performed: Performed<M>,
@@ -110,7 +111,7 @@ pub(crate) fn settle<M: Method>(
     })
 }
 
-/// What lanes told, one lane after another.
+/// What lanes reported, one lane after another.
 #[derive(Drop)]
 struct Gathered<M> {
     removed: Vec<(u32, M)>,

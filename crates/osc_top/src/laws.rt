@@ -22,7 +22,8 @@ ghost use Rattle.osc_top.specs.Resumed.{PlaysResumed};
 
 use osc_method::Method;
 
-/// Three lines of three lanes, of which one has no line, and a bank of three boxes, of which one is left.
+/// Three lines of three lanes, of which one has no line, and a bank of three boxes, of which one is
+/// left.
 pub fn lines_are_dealt_to_their_lanes()
     ensures { IsOkAnd (script_of Lanes (codes "0 add /a\n2 add /b\n0 pump\n"))
         (λ lines. map {B = List ℕ × List ℕ}
@@ -49,7 +50,8 @@ pub fn enough_room_stops_no_lane<M: Method>()
     osc_lanes::laws::enough_room_never_stops::<M>();
 }
 
-/// Each method that a past adds has the bank's box in the place of its id, whether the past removes it or not.
+/// Each method that a past adds has the bank's box in the place of its id, whether the past removes
+/// it or not.
 pub fn methods_of_a_past_have_the_first_boxes<M: Method>()
     ensures { (caps : Limits) (before : List Entry) (bank : List M) (boxes_heard : List (ℕ × M))
         (boxes_left : List M) (lines : List Line) (recording : List ℕ) (text : List ℕ)
@@ -65,8 +67,8 @@ pub fn methods_of_a_past_have_the_first_boxes<M: Method>()
     osc_record::laws::a_written_entry_is_read_again();
 }
 
-/// Where a line adds a method, the box that is kept under its id has the mark of the line's box: on a new server, and
-/// on one that goes on from a past, of the ids that the past didn't give.
+/// Where a line adds a method, the box that is kept under its id has the mark of the line's box: on
+/// a new server, and on one that goes on from a past, of the ids that the past didn't give.
 pub fn methods_of_lines_have_their_boxes<M: Method>()
     ensures new { (caps : Limits) (watched : Bool) (lines : List Line) (bank : List M)
         (boxes_heard : List (ℕ × M)) (boxes_left : List M) (recording text : List ℕ)

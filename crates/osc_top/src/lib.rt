@@ -1,4 +1,5 @@
-//! All that the program `oscd` does, over any source and sinks, links and clock; and `osc`'s top call.
+//! All that the program `oscd` does, over any source and sinks, links and clock; and `osc`'s top
+//! call.
 #![tactic(auto)]
 
 mod after;
@@ -17,6 +18,7 @@ mod outputs;
 mod played;
 mod resume;
 mod transport;
+mod venue;
 
 pub use link_ports::ports;
 pub use live::live_top;

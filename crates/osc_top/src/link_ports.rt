@@ -1,4 +1,4 @@
-//! The ports of the links that the words tell to serve.
+//! The ports of the links that the words say to serve.
 ghost use Rattle.osc_links.specs.declared.limits.TheConstants.{MAX_LINKS};
 ghost use Rattle.std.specs.Prelude.{◌≡◌, ◌+◌, ◌≤◌, IfOk, length, map, string_bytes};
 ghost use Rattle.std.specs.List.{range_with_len};
@@ -8,8 +8,9 @@ ghost use Rattle.osc_top.specs.Commands.{ports_of};
 use osc_words::{LiveCommand, live_command_of};
 use std::alloc::{AllocError, Global};
 
-/// The ports of the links that `serve` is told to serve, one for each link, ascending by one from the first; none where
-/// the words are refused or say another command. An `Err` means out of memory.
+/// The ports of the links that a `serve` is to serve, one for each link, ascending by one from
+/// the first; none where the words are refused or say another command. An `Err` means out of
+/// memory.
 pub fn ports(alloc: Global, words: &[String]) -> Result<Vec<u16>, AllocError>
     ensures said { IfOk result (λ ports. ports.items ≡ ports_of (map string_bytes words.now)) }
     ensures few { IfOk result (λ ports. length ports.items ≤ MAX_LINKS) }

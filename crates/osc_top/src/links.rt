@@ -14,24 +14,23 @@ ghost use Rattle.osc_top.specs.Served.{PlaysLinks, link_faults};
 ghost use Rattle.osc_top.specs.Staged.{IsStaged};
 
 use crate::played::Played;
+use crate::venue::Venue;
 use osc_atoms::{Fault, Room};
 use osc_edge::{Clock, Link, Sink};
 use osc_ends::{Outcome, Recorded, count_adds, stopped};
 use osc_growing::Growth;
 use osc_lanes::{Gate, LanePart, LaneTold};
-use osc_links::{Bounds, HostPart, Hosted, LinksPart, run_links};
+use osc_links::{HostPart, Hosted, run_links};
 use osc_method::Method;
 use osc_player::gather;
 use osc_print::{Text, link_fault_line};
-use osc_record::Caps;
-use osc_script::Line;
 use std::alloc::{AllocError, Global};
 use std::sync::Wait;
 use std::thread::Threads;
 
-/// Plays the lines on a new server as caller 0, the k-th add with the k-th box, and serves the links at the same time.
-/// While the links are served, what is recorded is written to `rec`. The links come back in their order. An `Err` means
-/// out of memory.
+/// Plays the opening on a new server as caller 0, its k-th add with its k-th box, of which it may
+/// have too many, and serves the links at the same time. While the links are served, what is
+/// recorded is written to `rec`. The links come back in their order. An `Err` means out of memory.
 pub(crate) fn stage_links<
     M: Method + Send,
     L: Link + Send + Drop,
@@ -40,48 +39,46 @@ pub(crate) fn stage_links<
     G: Gate + Sync,
     R: Sink,
 >(
-    rt: &W,
-    alloc: Global,
-    caps: Caps,
-    lines: Vec<Line>,
-    mut bank: Vec<M>,
-    links: Vec<L>,
+    venue: &Venue<'_, W, G>,
+    host: HostPart<M, L>,
     clock: &mut C,
     rec: &mut R,
-    bounds: Bounds,
-    gate: &G,
 ) -> Result<(Played<M>, Vec<L>, Growth), AllocError>
-    requires callers { caps.callers ≡ LIVE_CALLERS }
-    requires enough { count_adds lines.items ≤ length bank.items }
-    requires few { length links.items ≤ MAX_LINKS }
-    requires count { 0 < bounds.count }
-    requires idle { 0 < bounds.idle }
+    requires callers { host.caps.callers ≡ LIVE_CALLERS }
+    requires enough { count_adds host.opening.lines.items ≤ length host.opening.boxes.items }
+    requires few { length host.links.from.items ≤ MAX_LINKS }
+    requires count { 0 < host.links.bounds.count }
+    requires idle { 0 < host.links.bounds.idle }
     ensures staged { IfOk result (λ staged. IsStaged
-        (PlaysLinks M.keep M.heard L.left L.faults caps bounds bank.items links.items
+        (PlaysLinks M.keep M.heard L.left L.faults host.caps host.links.bounds
+        host.opening.boxes.items host.links.from.items
         (clock_read C.left C.faults clock.old clock.new) staged.0.heard.items
-        staged.0.left.items staged.1.items lines.items)
-        caps staged.0.recorded.bytes.items staged.0.recorded.faults
+        staged.0.left.items staged.1.items host.opening.lines.items)
+        host.caps staged.0.recorded.bytes.items staged.0.recorded.faults
         staged.0.recorded.outcome) }
     ensures grown { IfOk result (λ staged. HasGrown staged.2
         (change R.Sink rec.old rec.new) staged.0.recorded.bytes.items) }
 {
-    let rest = bank.split_off(count_adds(&lines))?;
+    let HostPart {
+        caps,
+        opening: LanePart { lines, mut boxes },
+        links,
+    } = host;
+    let rest = boxes.split_off(count_adds(&lines))?;
     let host = HostPart {
         caps,
-        opening: LanePart { lines, boxes: bank },
-        links: LinksPart {
-            from: links,
-            bounds,
-        },
+        opening: LanePart { lines, boxes },
+        links,
     };
-    let hosted = run_links(rt, alloc, host, clock, rec, gate)?;
+    let hosted = run_links(venue.rt, venue.alloc, host, clock, rec, venue.gate)?;
     let growth = hosted.growth;
-    let settled = settle_links(alloc, hosted, rest)?;
+    let settled = settle_links(venue.alloc, hosted, rest)?;
     let (played, links) = settled;
     Ok((played, links, growth))
 }
 
-/// Puts together what caller 0 and the links tell. The boxes that no line took are among those that are left.
+/// Puts together what caller 0 and the links report. The boxes that no line took are among those that
+/// are left.
 fn settle_links<M: Method, L: Drop>(
     alloc: Global,
     hosted: Hosted<M, L>,

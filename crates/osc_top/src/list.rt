@@ -9,6 +9,7 @@ ghost use Rattle.osc_top.specs.Watched as watched;
 ghost use Rattle.osc_top.specs.Staged.{PerformsWatched};
 ghost use Rattle.osc_top.specs.Watched.{rows_text};
 
+use crate::venue::Venue;
 use osc_display::{Displayed, display_lanes};
 use osc_lanes::{Gate, LanePart, Performed, run_lanes};
 use osc_method::Method;
@@ -27,15 +28,13 @@ pub(crate) struct Listed<M> {
     pub(crate) list: Text,
 }
 
-/// Plays the parts as lanes at the same time on a new server, with a watcher of its methods next to them if `watch`
-/// says so. An `Err` means out of memory.
+/// Plays the parts as lanes at the same time on a new server, with a watcher of its methods next to
+/// them if `watch` says so. An `Err` means out of memory.
 pub(crate) fn play_parts<M: Method + Send, W: Threads + Wait + Sync, G: Gate + Sync>(
-    rt: &W,
-    alloc: Global,
+    venue: &Venue<'_, W, G>,
     caps: Caps,
     watch: bool,
     parts: Vec<LanePart<M>>,
-    gate: &G,
 ) -> Result<Listed<M>, AllocError>
     requires callers { length parts.items < caps.callers }
     requires whole { All (λ part. IsWhole (part_of part)) parts.items }
@@ -44,6 +43,7 @@ pub(crate) fn play_parts<M: Method + Send, W: Threads + Wait + Sync, G: Gate + S
         played.performed.closed.kept.items (map told_of played.performed.lanes.items)
         (option_map room_of played.performed.unenrolled) played.list) }
 {
+    let Venue { rt, alloc, gate } = *venue;
     if watch {
         let displayed = display_lanes(rt, alloc, caps, parts, gate)?;
         let Displayed { performed, methods } = displayed;

@@ -1,17 +1,13 @@
 //! The top call of many threads.
 ghost use Rattle.osc_links.specs.declared.limits.TheConstants.{MAX_LINKS};
 ghost use Rattle.osc_ends.specs.declared.status.TheConstants.{BANK_SHORT, DONE, EDGE_FAILED};
-ghost use Rattle.osc_ends.specs.declared.status.TheConstants.{NO_MEMORY, REFUSED, SINK_FAILED};
+ghost use Rattle.osc_ends.specs.declared.status.TheConstants.{NO_MEMORY, SINK_FAILED};
 ghost use Rattle.osc_ends.specs.declared.status.TheConstants.{SOURCE_FAILED, USAGE};
 ghost use Rattle.std.specs.Prelude.{◌≡◌, ◌≢◌, ◌⊎◌, ◌≤◌, ◌<◌, ℕ, Bool, true, IsTrue, IsOkAnd};
-ghost use Rattle.std.specs.Prelude.{IsErrAnd, IfSome, Some, None, Ok, List, [], length, map};
-ghost use Rattle.std.specs.Prelude.{string_bytes};
+ghost use Rattle.std.specs.Prelude.{IfSome, Some, None, Ok, List, [], length, map, string_bytes};
 ghost use Rattle.osc_edge.specs.Faults.{Rose};
 ghost use Rattle.osc_core.specs.Ids.{is_ascending};
 ghost use Rattle.osc_links.specs.Ticks.{clock_read};
-ghost use Rattle.osc_model.specs.Limits.{Limits};
-ghost use Rattle.osc_model.specs.Events.{Entry};
-ghost use Rattle.osc_replay.specs.Disagreeing.{IsRecordingOf};
 ghost use Rattle.osc_script.specs.declared.script.TheConstants.{MAX_SCRIPT};
 ghost use Rattle.osc_script.specs.declared.mode.Mode.TheVariants.{Lanes};
 ghost use Rattle.osc_script.specs.Scripts.{script_of, AreOf};
@@ -25,28 +21,25 @@ ghost use Rattle.osc_top.specs.Edges.{TellsEdge};
 ghost use Rattle.osc_top.specs.EndsCommand.{EndsCommand, LeavesAlone, MayEnd};
 ghost use Rattle.osc_plain.specs.EndsPlain.{HandsBack};
 ghost use Rattle.osc_script.specs.Adds.{count_adds};
-ghost use Rattle.osc_ends.specs.Printing.{usage_text, refusal_text, recorded_text};
+ghost use Rattle.osc_ends.specs.Printing.{usage_text};
 ghost use Rattle.osc_ends.specs.Ends.{left_behind, IsUnplayed, IsWritten};
 ghost use Rattle.osc_top.specs.Enough.{enough_lanes};
 ghost use Rattle.osc_top.specs.History.{RecordsHistory};
 ghost use Rattle.osc_top.specs.Watched.{EndsListed};
-ghost use Rattle.osc_ends.specs.Outcomes.{status_of};
-ghost use Rattle.osc_growing.specs.Growing.{HasGrown, IsWithin};
-ghost use Rattle.osc_top.specs.Recorded.{EndsBoth};
 ghost use Rattle.osc_ends.specs.Sinks.{change, Fails, IsSteady, GainsUnless};
 
 use crate::caps::live_limits;
 use crate::lanes::stage;
 use crate::laws::enough_room_stops_no_lane;
 use crate::links::stage_links;
-use crate::outputs::write_both;
-use crate::played::Played;
+use crate::outputs::end;
+use crate::venue::Venue;
 use osc_edge::{Clock, Link, Sink, Source};
 use osc_ends::status::NO_MEMORY;
 use osc_ends::{Ended, bank_short, count_adds, read_script, usage};
 use osc_growing::Growth;
-use osc_lanes::Gate;
-use osc_links::Bounds;
+use osc_lanes::{Gate, LanePart};
+use osc_links::{Bounds, HostPart, LinksPart};
 use osc_method::Method;
 use osc_script::{Line, Mode};
 use osc_words::{LiveCommand, live_command_of};
@@ -54,18 +47,19 @@ use std::alloc::Global;
 use std::sync::Wait;
 use std::thread::Threads;
 
-/// Does all that the program of many threads does. `lanes FILE` reads a script from `input` to its end, plays each of
-/// its lanes by a thread of its own on one new server, and writes the recording to `rec`, and then the printed history
-/// and the faults of the lanes' packets to `out`; with `--watch` a watcher reads the list of methods meanwhile, and the
-/// list after the lanes follows the faults. `serve FILE` reads a script of adds, plays it as caller 0, serves
-/// each of `links` by a thread of its own and the ticker, who reads `clock`, by another, and writes the same of them; what
-/// is recorded is written to `rec` while the links are served.
-/// `osc replay` prints the same history from the recording.
+/// Does all that the program of many threads does. `lanes FILE` reads a script from `input` to its
+/// end, plays each of its lanes by a thread of its own on one new server, and writes the recording
+/// to `rec`, and then the printed history and the faults of the lanes' packets to `out`; with
+/// `--watch` a watcher reads the list of methods meanwhile, and the list after the lanes follows
+/// the faults. `serve FILE` reads a script of adds, plays it as caller 0, serves each of `links` by
+/// a thread of its own and the ticker, who reads `clock`, by another, and writes the same of them;
+/// what is recorded is written to `rec` while the links are served. `osc replay` prints the same
+/// history from the recording.
 ///
-/// `words` are those of the command line, without the program's name. The k-th add of the script, whatever its lane,
-/// gets the k-th box of `bank`. `gate` is called round each line, or each datagram. The links come back in their order,
-/// as they were left. What stands in the sinks, and what becomes of the boxes, the links and the clock, when out of
-/// memory isn't said.
+/// `words` are those of the command line, without the program's name. The k-th add of the script,
+/// whatever its lane, gets the k-th box of `bank`. `gate` is called round each line, or each
+/// datagram. The links come back in their order, as they were left. What stands in the sinks, and
+/// what becomes of the boxes, the links and the clock, when out of memory isn't said.
 pub fn live_top<
     S: Source,
     O: Sink,
@@ -99,8 +93,9 @@ pub fn live_top<
     ensures usage_text { result.0.status ≡ USAGE
         → GainsUnless (change O.Sink out.old out.new) usage_text }
 
-    // Then a source that failed, of which nothing is written. Any other answer but out of memory means that the
-    // source didn't fail, and that it was read to its end, or to the first byte that is too many.
+    // Then a source that failed, of which nothing is written. Any other answer but out of memory
+    // means that the source didn't fail, and that it was read to its end, or to the first byte that
+    // is too many.
     ensures source { result.0.status ≡ SOURCE_FAILED
         → Rose (S.faults input.old) (S.faults input.new) }
     ensures unwritten { result.0.status ≡ SOURCE_FAILED → out.new ≡ out.old }
@@ -111,8 +106,9 @@ pub fn live_top<
         (λ all. result.0.status ≢ NO_MEMORY → result.0.status ≢ SOURCE_FAILED →
         S.left input.new ≡ Some (left_behind MAX_SCRIPT all))) }
 
-    // Then a script that is refused, or that adds more methods than there are boxes, or what its lanes or the links
-    // came to, with sinks that took all of it or failed. The script is what the source had left, where it tells.
+    // Then a script that is refused, or that adds more methods than there are boxes, or the result
+    // of its lanes or of the links, with sinks that took all of it or failed. The script is what the
+    // source had left, where it reports that.
     ensures ends { IfSome (said.live_command_of (map string_bytes words.now))
         (λ command. result.0.status ≢ SOURCE_FAILED → (script : List ℕ)
         × IfSome (S.left input.old) (λ all. script ≡ all)
@@ -121,8 +117,8 @@ pub fn live_top<
         result.1.items (clock_read C.left C.faults clock.old clock.new)
         (change R.Sink rec.old rec.new) (change O.Sink out.old out.new)) }
 
-    // Where all was written, there is one history, which the boxes have heard, and `osc replay` prints from its
-    // recording what begins the text.
+    // Where all was written, there is one history, which the boxes have heard, and `osc replay`
+    // prints from its recording what begins the text.
     ensures one_history { IfSome (said.live_command_of (map string_bytes words.now))
         (λ command. IsWritten result.0.status →
         RecordsHistory (λ box. keep box) (λ box. heard box)
@@ -143,8 +139,8 @@ pub fn live_top<
         → said.live_command_of (map string_bytes words.now) ≡ Some (live.Lanes caps watch)
         → (result.1.items ≡ links.items) × (clock.new ≡ clock.old) }
 
-    // Where lanes are watched, the methods that stand after them are listed last, but for the line on a full
-    // recording.
+    // Where lanes are watched, the methods that stand after them are listed last, but for the line
+    // on a full recording.
     ensures listed { (caps : Capacities)
         → said.live_command_of (map string_bytes words.now) ≡ Some (live.Lanes caps true)
         → IsWritten result.0.status → EndsListed result.0.status (commands.live_limits caps)
@@ -160,12 +156,14 @@ pub fn live_top<
     ensures ended { result.0.status ≡ DONE
         → IfSome (S.left input.old) (λ all. S.left input.new ≡ Some []) }
 
-    // The boxes that were added stand by their ids. Where nothing was played, all of them come back.
+    // The boxes that were added stand by their ids. Where nothing was played, all of them come
+    // back.
     ensures ascending { IsTrue (is_ascending (map (λ one. one.0) result.0.heard.items)) }
     ensures none_heard { IsUnplayed result.0.status → result.0.heard.items ≡ [] }
     ensures all_left { IsUnplayed result.0.status → result.0.left.items ≡ bank.items }
 
-    // A lawful script with enough boxes is played, over edges that don't fail, unless memory runs out.
+    // A lawful script with enough boxes is played, over edges that don't fail, unless memory runs
+    // out.
     ensures complete { IfSome (said.live_command_of (map string_bytes words.now))
         (λ command. IfSome (S.left input.old)
         (λ script. IsOkAnd (script_of (mode_of command) script)
@@ -193,9 +191,10 @@ pub fn live_top<
     };
     match read_script(alloc, mode_of(command), input, out) {
         Ok(lines) => {
-            play_lines(
-                rt, alloc, command, lines, out, rec, links, clock, bank, gate,
-            )
+            let venue = Venue { rt, alloc, gate };
+            let plan = Plan { command, lines };
+            let performers = Performers { bank, links };
+            play_lines(&venue, plan, performers, clock, out, rec)
         }
         Err(status) => (unplayed(alloc, status, bank), links),
     }
@@ -224,6 +223,18 @@ fn mode_of(command: LiveCommand) -> Mode
     }
 }
 
+/// What the words and the script say to play.
+struct Plan {
+    command: LiveCommand,
+    lines: Vec<Line>,
+}
+
+/// The boxes that the lines add, and the links that are served.
+struct Performers<M, L> {
+    bank: Vec<M>,
+    links: Vec<L>,
+}
+
 /// Plays the lines, if there is a box for each add.
 fn play_lines<
     O: Sink,
@@ -233,32 +244,32 @@ fn play_lines<
     W: Threads + Wait + Sync,
     G: Gate + Sync,
 >(
-    rt: &W,
-    alloc: Global,
-    command: LiveCommand,
-    lines: Vec<Line>,
+    venue: &Venue<'_, W, G>,
+    plan: Plan,
+    performers: Performers<Box<dyn Method + Send>, L>,
+    clock: &mut C,
     out: &mut O,
     rec: &mut R,
-    links: Vec<L>,
-    clock: &mut C,
-    bank: Vec<Box<dyn Method + Send>>,
-    gate: &G,
 ) -> (Ended, Vec<L>)
-    requires lawful { IsLawfulLive command }
-    requires few { length links.items ≤ MAX_LINKS }
-    requires lines { AreOf (commands.mode_of command) lines.items }
-    ensures ends { (script : List ℕ) → script_of (commands.mode_of command) script ≡ Ok lines.items
-        → EndsCommand (λ box. keep box) (λ box. heard box) L.left L.faults command
-        result.0.status script bank.items result.0.heard.items result.0.left.items
-        links.items result.1.items (clock_read C.left C.faults clock.old clock.new)
+    requires lawful { IsLawfulLive plan.command }
+    requires few { length performers.links.items ≤ MAX_LINKS }
+    requires lines { AreOf (commands.mode_of plan.command) plan.lines.items }
+    ensures ends { (script : List ℕ)
+        → script_of (commands.mode_of plan.command) script ≡ Ok plan.lines.items
+        → EndsCommand (λ box. keep box) (λ box. heard box) L.left L.faults plan.command
+        result.0.status script performers.bank.items result.0.heard.items result.0.left.items
+        performers.links.items result.1.items (clock_read C.left C.faults clock.old clock.new)
         (change R.Sink rec.old rec.new) (change O.Sink out.old out.new) }
-    ensures back { HandsBack result.0.status bank.items result.0.heard.items
+    ensures back { HandsBack result.0.status performers.bank.items result.0.heard.items
         result.0.left.items }
-    ensures alone { LeavesAlone command result.0.status links.items result.1.items clock.old
-        clock.new rec.old rec.new }
+    ensures alone { LeavesAlone plan.command result.0.status performers.links.items
+        result.1.items clock.old clock.new rec.old rec.new }
     ensures sink { result.0.status ≡ SINK_FAILED
         → Fails (change O.Sink out.old out.new) ⊎ (out.new ≡ out.old) }
 {
+    let alloc = venue.alloc;
+    let Plan { command, lines } = plan;
+    let Performers { bank, links } = performers;
     let need = count_adds(&lines);
     if bank.len() < need {
         let status = bank_short(alloc, need, bank.len(), out);
@@ -266,8 +277,11 @@ fn play_lines<
     }
     match command {
         LiveCommand::Lanes { caps, watch } => {
-            match stage(rt, alloc, live_limits(caps), watch, lines, bank, gate) {
-                Ok(played) => (end(alloc, played, out, rec), links),
+            match stage(venue, live_limits(caps), watch, lines, bank) {
+                Ok(played) => {
+                    let growth = Growth::Written(0);
+                    (end(alloc, played, growth, None, out, rec), links)
+                }
                 Err(_) => (unplayed(alloc, NO_MEMORY, Vec::new(alloc)), links),
             }
         }
@@ -279,71 +293,20 @@ fn play_lines<
         } => {
             let bounds = Bounds { count, idle };
             let caps = live_limits(caps);
-            match stage_links(
-                rt, alloc, caps, lines, bank, links, clock, rec, bounds, gate,
-            ) {
+            let host = HostPart {
+                caps,
+                opening: LanePart { lines, boxes: bank },
+                links: LinksPart {
+                    from: links,
+                    bounds,
+                },
+            };
+            match stage_links(venue, host, clock, rec) {
                 Ok((played, links, growth)) => {
-                    (end_grown(alloc, played, growth, out, rec), links)
+                    (end(alloc, played, growth, None, out, rec), links)
                 }
                 Err(_) => (unplayed(alloc, NO_MEMORY, Vec::new(alloc)), Vec::new(alloc)),
             }
         }
-    }
-}
-
-/// Writes what was played, of which nothing was written yet.
-fn end<O: Sink, R: Sink>(
-    alloc: Global,
-    played: Played<Box<dyn Method + Send>>,
-    out: &mut O,
-    rec: &mut R,
-) -> Ended
-    requires { (caps : Limits) × (history : List Entry)
-        × IsRecordingOf played.recorded.bytes.items caps history }
-    ensures ends { (caps : Limits) (history : List Entry)
-        → IsRecordingOf played.recorded.bytes.items caps history →
-        EndsBoth (status_of played.recorded.outcome) result.status played.recorded.bytes.items
-        (recorded_text caps history played.recorded.faults played.recorded.outcome)
-        (change R.Sink rec.old rec.new) (change O.Sink out.old out.new) }
-    ensures sink { result.status ≡ SINK_FAILED
-        → Fails (change O.Sink out.old out.new) ⊎ (out.new ≡ out.old) }
-    ensures heard { result.heard.items ≡ played.heard.items }
-    ensures left { result.left.items ≡ played.left.items }
-{
-    end_grown(alloc, played, Growth::Written(0), out, rec)
-}
-
-/// Writes what was played and isn't written yet.
-fn end_grown<O: Sink, R: Sink>(
-    alloc: Global,
-    played: Played<Box<dyn Method + Send>>,
-    growth: Growth,
-    out: &mut O,
-    rec: &mut R,
-) -> Ended
-    requires recording { (caps : Limits) × (history : List Entry)
-        × IsRecordingOf played.recorded.bytes.items caps history }
-    requires within { IsWithin growth (length played.recorded.bytes.items) }
-    ensures ends { (start : R) (caps : Limits) (history : List Entry)
-        → HasGrown growth (change R.Sink start rec.old)
-        played.recorded.bytes.items
-        → IsRecordingOf played.recorded.bytes.items caps history →
-        EndsBoth (status_of played.recorded.outcome) result.status played.recorded.bytes.items
-        (recorded_text caps history played.recorded.faults played.recorded.outcome)
-        (change R.Sink start rec.new) (change O.Sink out.old out.new) }
-    ensures sink { result.status ≡ SINK_FAILED
-        → Fails (change O.Sink out.old out.new) ⊎ (out.new ≡ out.old) }
-    ensures heard { result.heard.items ≡ played.heard.items }
-    ensures left { result.left.items ≡ played.left.items }
-{
-    let Played {
-        recorded,
-        heard,
-        left,
-    } = played;
-    Ended {
-        status: write_both(alloc, &recorded, growth, out, rec),
-        heard,
-        left,
     }
 }

@@ -6,7 +6,8 @@ ghost use Rattle.osc_top.specs.Commands.{name_in, names_in};
 
 use osc_words::last_two;
 
-/// The name of the file for the recording: the last of at least two words, of which the first is `lanes` or `serve`.
+/// The name of the file for the recording: the last of at least two words, of which the first is
+/// `lanes` or `serve`.
 pub fn recording_name(words: &[String]) -> Option<&str>
     ensures { option_copied result ≡ name_in (map string_bytes words.now) }
 {
@@ -23,8 +24,8 @@ fn names_recording(word: &str) -> bool
     word == "lanes" || word == "serve"
 }
 
-/// The names of the files for the old recording and for the new one: the last two of at least three words, of which the
-/// first is `resume`.
+/// The names of the files for the old recording and for the new one: the last two of at least three
+/// words, of which the first is `resume`.
 pub fn resume_names(words: &[String]) -> Option<(&str, &str)>
     ensures { option_map (λ both. (both.0.now, both.1.now)) result
         ≡ names_in (map string_bytes words.now) }

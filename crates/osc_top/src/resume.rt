@@ -2,8 +2,8 @@
 ghost use Rattle.osc_ends.specs.declared.status.TheConstants.{CALLERS_FULL, DONE, EDGE_FAILED};
 ghost use Rattle.osc_ends.specs.declared.status.TheConstants.{NO_MEMORY, SINK_FAILED};
 ghost use Rattle.osc_ends.specs.declared.status.TheConstants.{SOURCE_FAILED, USAGE};
-ghost use Rattle.std.specs.Prelude.{◌≡◌, ◌≢◌, ◌⊎◌, ◌≤◌, ℕ, IsTrue, IfSome, Some, None, List, []};
-ghost use Rattle.std.specs.Prelude.{length, map, string_bytes};
+ghost use Rattle.std.specs.Prelude.{◌≡◌, ◌≢◌, ◌⊎◌, ◌≤◌, IsTrue, IfSome, Some, None, [], length};
+ghost use Rattle.std.specs.Prelude.{map, string_bytes};
 ghost use Rattle.osc_edge.specs.Faults.{Rose};
 ghost use Rattle.osc_core.specs.Ids.{is_ascending};
 ghost use Rattle.osc_model.specs.Limits.{max_recording};
@@ -21,6 +21,7 @@ ghost use Rattle.osc_top.specs.Taken.{OfInputs};
 use crate::after::play_after;
 use crate::intake::{judge_both, read_both};
 use crate::live::unplayed;
+use crate::venue::Venue;
 use osc_edge::{Sink, Source};
 use osc_ends::status::NO_MEMORY;
 use osc_ends::{Ended, usage};
@@ -31,15 +32,16 @@ use std::alloc::Global;
 use std::sync::Wait;
 use std::thread::Threads;
 
-/// Does all that `oscd resume OLD FILE` does. Reads a recording from `past` and then a script from `input`, each to its
-/// end, takes up the server that the recording leaves, plays each lane of the script by a thread of its own on it, and
-/// writes the whole recording to `rec`, and then its printed history and the faults of the lanes' packets to `out`.
-/// `osc replay` prints the same history from the recording.
+/// Does all that `oscd resume OLD FILE` does. Reads a recording from `past` and then a script from
+/// `input`, each to its end, takes up the server that the recording leaves, plays each lane of the
+/// script by a thread of its own on it, and writes the whole recording to `rec`, and then its
+/// printed history and the faults of the lanes' packets to `out`. `osc replay` prints the same
+/// history from the recording.
 ///
-/// `words` are those of the command line, without the program's name. The k-th method that the past adds gets the k-th
-/// box of `bank`, which hears the old invocations again, and the k-th add of the script, whatever its lane, the k-th
-/// after these. `gate` is called round each line. What stands in the sinks, and what becomes of the boxes, when out of
-/// memory isn't said.
+/// `words` are those of the command line, without the program's name. The k-th method that the past
+/// adds gets the k-th box of `bank`, which hears the old invocations again, and the k-th add of the
+/// script, whatever its lane, the k-th after these. `gate` is called round each line. What stands
+/// in the sinks, and what becomes of the boxes, when out of memory isn't said.
 pub fn resume_top<P: Source, S: Source, O: Sink, R: Sink, W: Threads + Wait + Sync, G: Gate + Sync>(
     rt: &W,
     alloc: Global,
@@ -63,9 +65,9 @@ pub fn resume_top<P: Source, S: Source, O: Sink, R: Sink, W: Threads + Wait + Sy
     ensures usage_text { result.status ≡ USAGE
         → GainsUnless (change O.Sink out.old out.new) usage_text }
 
-    // Then a source that failed, of which nothing is written: the past's, and then nothing is read of the input, or the
-    // input's. Any other answer but out of memory means that neither failed, and that each was read to its end, or to
-    // the first byte that is too many.
+    // Then a source that failed, of which nothing is written: the past's, and then nothing is read
+    // of the input, or the input's. Any other answer but out of memory means that neither failed,
+    // and that each was read to its end, or to the first byte that is too many.
     ensures source { result.status ≡ SOURCE_FAILED
         → (Rose (P.faults past.old) (P.faults past.new) × (input.new ≡ input.old))
         ⊎ ((P.faults past.new ≡ P.faults past.old)
@@ -82,9 +84,10 @@ pub fn resume_top<P: Source, S: Source, O: Sink, R: Sink, W: Threads + Wait + Sy
         (λ all. result.status ≢ NO_MEMORY → result.status ≢ SOURCE_FAILED →
         S.left input.new ≡ Some (left_behind MAX_SCRIPT all))) }
 
-    // Then a past or a script that is refused, or that together add more methods than there are boxes, or have more
-    // callers than the past's limits allow, or what the lanes came to, with sinks that took all of it or failed. The
-    // past and the script are what the sources had left, where they tell.
+    // Then a past or a script that is refused, or that together add more methods than there are
+    // boxes, or have more callers than the past's limits allow, or the result of the lanes, with
+    // sinks that took all of it or failed. The past and the script are what the sources had left,
+    // where they report that.
     ensures ends { IfSome (said.resume_command_of (map string_bytes words.now))
         (λ command. result.status ≢ SOURCE_FAILED
         → OfInputs (P.left past.old) (S.left input.old) (λ bytes script.
@@ -94,14 +97,13 @@ pub fn resume_top<P: Source, S: Source, O: Sink, R: Sink, W: Threads + Wait + Sy
         result.status bytes script (length bank.items)
         (change R.Sink rec.old rec.new) (change O.Sink out.old out.new))) }
 
-    // Where all was written, the recording is that of one history, which begins with the past, the boxes have heard it,
-    // and `osc replay` prints from the recording what begins the text. Where the sink of the recording failed, nothing
-    // was done with the other.
+    // Where all was written, the recording is that of one history, which begins with the past, the
+    // boxes have heard it, and `osc replay` prints from the recording what begins the text. Where
+    // the sink of the recording failed, nothing was done with the other.
     ensures one_history { IfSome (said.resume_command_of (map string_bytes words.now))
         (λ command. IsResumed result.status → OfInput (P.left past.old)
         (λ bytes. RecordsOneHistory (λ box. keep box) (λ box. heard box) command.room bytes
-        result.heard.items (change R.Sink rec.old rec.new)
-        (change O.Sink out.old out.new))) }
+        result.heard.items (change R.Sink rec.old rec.new) (change O.Sink out.old out.new))) }
     ensures sink { result.status ≡ SINK_FAILED
         → Fails (change O.Sink out.old out.new)
         ⊎ (Fails (change R.Sink rec.old rec.new) × (out.new ≡ out.old)) }
@@ -115,7 +117,8 @@ pub fn resume_top<P: Source, S: Source, O: Sink, R: Sink, W: Threads + Wait + Sy
         → IfSome (P.left past.old) (λ all. P.left past.new ≡ Some [])
         × IfSome (S.left input.old) (λ all. S.left input.new ≡ Some []) }
 
-    // The boxes that were added stand by their ids. Where nothing was played, all of them come back.
+    // The boxes that were added stand by their ids. Where nothing was played, all of them come
+    // back.
     ensures ascending { IsTrue (is_ascending (map (λ one. one.0) result.heard.items)) }
     ensures none_heard { IsUnresumed result.status → result.heard.items ≡ [] }
     ensures all_left { IsUnresumed result.status → result.left.items ≡ bank.items }
@@ -130,7 +133,10 @@ pub fn resume_top<P: Source, S: Source, O: Sink, R: Sink, W: Threads + Wait + Sy
         Err(status) => return unplayed(alloc, status, bank),
     };
     match judge_both(alloc, &past, script, out) {
-        Ok(taken) => play_after(rt, alloc, command.room, taken, out, rec, bank, gate),
+        Ok(taken) => {
+            let venue = Venue { rt, alloc, gate };
+            play_after(&venue, command.room, taken, bank, out, rec)
+        }
         Err(status) => unplayed(alloc, status, bank),
     }
 }

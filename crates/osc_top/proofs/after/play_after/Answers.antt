@@ -1,4 +1,5 @@
 use Rattle.std.proofs.Common.{◌≡◌, ◌≢◌, ℕ, ◌<◌, ◌^◌, Option, Some, None, IfSome, length, sym, subst, ◌∙◌, arith, rules}
+use Rattle.osc_growing.proofs.Growths.{grown_none}
 use Rattle.osc_live.specs.Resuming.{roomier}
 use Rattle.osc_top.specs.After.{CanGoOn}
 use Rattle.osc_top.proofs.ResumeEnds.{can_go_on, few_told, reaches_all, reaches_so, resumed_back, resumed_end, resumed_few, resumed_onward, staged_recorded}
@@ -43,8 +44,8 @@ stage_after-requires-clause-enough g c _ _ =
           (length c.args.bank.items) _ none c.deref.ensures.value boxes c.refuse_short.ensures.reaches)),
     )
 
-pub end_resumed-requires : goal.end_resumed-requires
-end_resumed-requires g c =
+pub end-requires-clause-printed : goal.end-requires-clause-printed
+end-requires-clause-printed g c =
     let past = c.requires.past in
     let boxes : c.len.result ≡ length c.args.bank.items = search rules in
     let none : c.refuse_short.result ≡ None = search rules in
@@ -72,14 +73,15 @@ returns-in-Ok-clause-ends g c = λ script is.
     let same : c.refuse_short.new.out ≡ c.args.out.now = c.refuse_short.ensures.unwritten none in
     rw (← same)
     (resumed_end _ _ c.args.room c.args.bank.items _ _ _ _ _ c.args.taken.past _ _ c.args.taken.lines.items past.0 past.1 _ _ _
-    c.end_resumed.ensures.heard c.end_resumed.ensures.left staged
-    (c.end_resumed.ensures.ends (roomier past.0 c.args.room) staged.history staged.recording_of) can script is)
+    c.end.ensures.heard c.end.ensures.left staged
+    (c.end.ensures.ends c.args.rec.now (roomier past.0 c.args.room) staged.history
+    (grown_none (g.R.Sink.held c.args.rec.now) (g.R.Sink.faults c.args.rec.now) c.in-Ok.played.recorded.bytes.items) staged.recording_of) can script is)
 
 pub returns-in-Ok-clause-sink : goal.returns-in-Ok-clause-sink
 returns-in-Ok-clause-sink g c =
     let none : c.refuse_short.result ≡ None = search rules in
     let same : c.refuse_short.new.out ≡ c.args.out.now = c.refuse_short.ensures.unwritten none in
-    rw (← same) c.end_resumed.ensures.sink
+    rw (← same) c.end.ensures.sink
 
 pub returns-in-Ok-clause-back : goal.returns-in-Ok-clause-back
 returns-in-Ok-clause-back g c =
@@ -94,8 +96,9 @@ returns-in-Ok-clause-back g c =
     let staged = c.in-Ok.ensures past.0 past.1
     (subst (λ b. CanGoOn b c.args.taken.lines.items (length c.args.bank.items) past.0 past.1) (sym c.recording.ensures) can) in
     resumed_back _ _ c.args.room c.args.bank.items _ _ _ _ _ c.args.taken.past _ _ c.args.taken.lines.items past.0 past.1 _ _ _
-    c.end_resumed.ensures.heard c.end_resumed.ensures.left staged
-    (c.end_resumed.ensures.ends (roomier past.0 c.args.room) staged.history staged.recording_of)
+    c.end.ensures.heard c.end.ensures.left staged
+    (c.end.ensures.ends c.args.rec.now (roomier past.0 c.args.room) staged.history
+    (grown_none (g.R.Sink.held c.args.rec.now) (g.R.Sink.faults c.args.rec.now) c.in-Ok.played.recorded.bytes.items) staged.recording_of)
 
 pub returns-in-Ok-clause-unrecorded : goal.returns-in-Ok-clause-unrecorded
 returns-in-Ok-clause-unrecorded g c = λ unresumed.
@@ -111,5 +114,6 @@ returns-in-Ok-clause-unrecorded g c = λ unresumed.
     (subst (λ b. CanGoOn b c.args.taken.lines.items (length c.args.bank.items) past.0 past.1) (sym c.recording.ensures) can) in
     absurd
     (staged_recorded _ _ c.args.room c.args.bank.items _ _ _ _ _ c.args.taken.past _ _ c.args.taken.lines.items past.0 past.1 _ _ _
-    c.end_resumed.ensures.heard c.end_resumed.ensures.left staged
-    (c.end_resumed.ensures.ends (roomier past.0 c.args.room) staged.history staged.recording_of) unresumed)
+    c.end.ensures.heard c.end.ensures.left staged
+    (c.end.ensures.ends c.args.rec.now (roomier past.0 c.args.room) staged.history
+    (grown_none (g.R.Sink.held c.args.rec.now) (g.R.Sink.faults c.args.rec.now) c.in-Ok.played.recorded.bytes.items) staged.recording_of) unresumed)

@@ -32,7 +32,8 @@ returns-then-have-need-clause-decided g c = line_decided 9 _ _ _ _ c.callers_ful
 pub returns-then-have-need-clause-reaches : goal.returns-then-have-need-clause-reaches
 returns-then-have-need-clause-reaches g c =
     let need = c.args.checked.callers + c.lane_count.result in
-    let boxes : c.args.checked.adds + c.count_adds.result ≡ boxes_told c.args.checked c.args.lines.now = ap (λ n. c.args.checked.adds + n) c.count_adds.ensures in
+    let boxes : c.args.checked.adds + c.count_adds.result ≡ boxes_told c.args.checked c.args.lines.now =
+    ap (λ n. c.args.checked.adds + n) c.count_adds.ensures in
     let all : c.args.checked.callers + c.lane_count.result ≡ callers_told c.args.checked c.args.lines.now =
     ap (λ n. c.args.checked.callers + n) c.lane_count.ensures in
     let enough : c.args.checked.adds + c.count_adds.result ≤ c.args.boxes = search rules in

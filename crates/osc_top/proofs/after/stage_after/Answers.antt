@@ -55,13 +55,14 @@ returns g c caps before can =
     let performed = c.in_ok-performed.performed in
     let accounts = map told_of performed.lanes.items in
     let unenrolled = option_map room_of performed.unenrolled in
-    let performs = subst (λ (parts : List (Part g.row.M.Denot)). PerformsLater keep heard limits past parts performed.closed.bytes.items performed.closed.kept.items
-    accounts unenrolled) (c.in_ok-parts.ensures.parts ∙ ap (parts_of lines) is.rest) c.in_ok-performed.ensures in
+    let performs = subst (λ (parts : List (Part g.row.M.Denot)). PerformsLater keep heard limits past parts performed.closed.bytes.items
+    performed.closed.kept.items accounts unenrolled) (c.in_ok-parts.ensures.parts ∙ ap (parts_of lines) is.rest) c.in_ok-performed.ensures in
     let played = c.in_ok-played.played in
     let done = c.in_ok-played.ensures in
     let said = played.recorded.faults in
     let outcome = played.recorded.outcome in
-    subst (λ (l : Limits). IsStaged (PlaysResumed keep heard l before bank played.heard.items played.left.items lines) l played.recorded.bytes.items said outcome)
+    subst (λ (l : Limits). IsStaged (PlaysResumed keep heard l before bank played.heard.items played.left.items lines) l played.recorded.bytes.items said
+    outcome)
     is.limits_are
     (subst (λ (l : List ℕ). IsStaged (PlaysResumed keep heard limits before bank played.heard.items played.left.items lines) limits l said outcome)
     (sym done.bytes)

@@ -54,7 +54,8 @@ returns g c =
     subst (λ (l : List ℕ). IsStaged (PlaysLanes keep heard c.args.caps c.args.watch bank played.heard.items played.left.items lines) c.args.caps l said outcome)
     (sym done.bytes)
     (lanes_staged keep heard c.args.caps c.args.watch lines bank performed.closed.bytes.items performed.closed.kept.items
-    (map told_of performed.lanes.items) (option_map room_of performed.unenrolled) listed.list played.heard.items (performed_so g (goal.at.returns g c).In_ok-played)
+    (map told_of performed.lanes.items) (option_map room_of performed.unenrolled) listed.list played.heard.items
+    (performed_so g (goal.at.returns g c).In_ok-played)
     (none_gone performed.closed.kept.items (flat_map (λ account. account.removed) (map told_of performed.lanes.items)) played.heard.items c.new.result.items
     done.each c.new.ensures.items) done.ascending played.left.items _ said outcome done.left c.in_ok-parts.ensures.rest
     (c.in_ok-word.ensures.ok ∙ (λ i. done.faults i ++ c.bytes.ensures i)) done.outcome)
