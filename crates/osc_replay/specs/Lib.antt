@@ -1,5 +1,6 @@
 -- What public contracts cite.
 pub mod Answers
+pub mod Checking
 pub mod Counted
 pub mod Disagreeing
 pub mod Dumping
@@ -11,7 +12,6 @@ pub mod Room
 pub mod Upgrading
 -- Inside the crate.
 pub mod Calls
-pub mod Checking
 pub mod Events
 pub mod Kept
 pub mod Lawful
