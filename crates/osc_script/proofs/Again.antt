@@ -12,11 +12,12 @@ use Rattle.osc_atoms.specs.Atoms.{tag}
 use Rattle.osc_pattern.specs.Addresses.{is_address}
 use Rattle.osc_script.specs.Acts.{act_of, address_of, and_then}
 use Rattle.osc_script.specs.Scripts.{line_says, line_from, on_lane, onto, script_from, said_of, script_of, words_by}
-use Rattle.osc_script.specs.Kinds.{address_kind, too_long_kind}
 use Rattle.osc_script.specs.Words.{lines_of, words_of}
 use Rattle.osc_script.specs.declared.act.Act.{Act}
 use Rattle.osc_script.specs.declared.said.Said.{Said}
 use Rattle.osc_script.specs.declared.act.Act.TheVariants.{Add, Remove, Send, Tick, Pump}
+use Rattle.osc_script.specs.declared.fault.ScriptFaultKind.{ScriptFaultKind}
+use Rattle.osc_script.specs.declared.fault.ScriptFaultKind.TheVariants as kinds
 use Rattle.osc_script.specs.declared.mode.Mode.TheVariants.{Plain}
 use Rattle.osc_script.proofs.Cutting.{feed_ends, space_ends, last_word}
 use Rattle.osc_script.proofs.Operands.{lower_again, moment_again}
@@ -42,10 +43,10 @@ digits_some : (bytes : List ℕ) → 0 < length bytes → 0 < length (encode_low
 digits_some bytes some = omega (arith, length-encode_with lower_digits bytes)
 
 address_read : (address : List ℕ) → is_address address ≡ true → address_of (address ∷ []) ≡ Ok address
-address_read address is = ap (λ b. cond b (Ok address) (Err address_kind)) is
+address_read address is = ap (λ b. cond b (Ok address) (Err kinds.Address)) is
 
 -- what a line of an act says
-abbrev spoken : Result Act ℕ → Result (Option Said) ℕ
+abbrev spoken : Result Act ScriptFaultKind → Result (Option Said) ScriptFaultKind
 spoken read = and_then (on_lane 0 read) (λ said. Ok (Some said))
 
 each_read : (act : Act) → IsWritable act → Reads act
@@ -97,5 +98,5 @@ pub script_again : (acts : List Act) → AllByRecursion IsWritable acts → leng
     → script_of Plain (written acts) ≡ Ok (numbered 1 acts)
 script_again acts all short =
     let fits : nat_lt MAX_SCRIPT (length (written acts)) ≡ false = le-ltb MAX_SCRIPT (length (written acts)) short in
-    ap (λ b. cond b (Err (record { line = 0; kind = too_long_kind })) (script_from Plain 1 (lines_of (written acts)))) fits
+    ap (λ b. cond b (Err (record { line = 0; kind = 1 })) (script_from Plain 1 (lines_of (written acts)))) fits
     ∙ ap (script_from Plain 1) (lines_are acts all) ∙ all_read acts 1 all

@@ -6,8 +6,10 @@ use Rattle.osc_script.specs.declared.said.Said.{Said}
 use Rattle.osc_script.specs.declared.line.Line.{Line}
 use Rattle.osc_script.specs.declared.mode.Mode.{Mode}
 use Rattle.osc_script.specs.declared.fault.ScriptFault.{ScriptFault}
+use Rattle.osc_script.specs.declared.fault.ScriptFaultKind.{ScriptFaultKind}
 use Rattle.osc_script.specs.declared.fault.ScriptRefusal.{ScriptRefusal}
 use Rattle.osc_script.specs.declared.fault.ScriptRefusal.TheVariants.{Fault, NoMemory}
+use Rattle.osc_script.specs.Kinds.{kind_number}
 use Rattle.osc_script.specs.Words.{lines_of}
 use Rattle.osc_script.specs.Answers.{Reads}
 use Rattle.osc_script.specs.Faults.{IsFirstFault}
@@ -21,7 +23,9 @@ record IsFirstFrom (mode : Mode) (number : ℕ) (texts : List (List ℕ)) (fault
   lines : texts ≡ before ++ text ∷ after
   line : fault.line ≡ number + length before
   lawful : AllByRecursion (λ text. IsOk (line_says mode text)) before
-  kind : line_says mode text ≡ Err fault.kind
+  kind : ScriptFaultKind
+  said : line_says mode text ≡ Err kind
+  numbered : fault.kind ≡ kind_number kind
 
 later : (mode : Mode) (number : ℕ) (text : List ℕ) (texts : List (List ℕ)) (fault : ScriptFault) → IsOk (line_says mode text)
     → IsFirstFrom mode (number + 1) texts fault
@@ -34,10 +38,12 @@ later mode number text texts fault good first = record {
   line = omega (arith, first.line);
   lawful = (good, first.lawful);
   kind = first.kind;
+  said = first.said;
+  numbered = first.numbered;
 }
 
-here : (mode : Mode) (number : ℕ) (text : List ℕ) (texts : List (List ℕ)) (kind : ℕ) (fault : ScriptFault) → line_says mode text ≡ Err kind
-    → record { line = number; kind = kind } ≡ fault → IsFirstFrom mode number (text ∷ texts) fault
+here : (mode : Mode) (number : ℕ) (text : List ℕ) (texts : List (List ℕ)) (kind : ScriptFaultKind) (fault : ScriptFault) → line_says mode text ≡ Err kind
+    → record { line = number; kind = kind_number kind } ≡ fault → IsFirstFrom mode number (text ∷ texts) fault
 here mode number text texts kind fault said same = subst (λ f. IsFirstFrom mode number (text ∷ texts) f) same (record {
   before = [];
   text = text;
@@ -45,7 +51,9 @@ here mode number text texts kind fault said same = subst (λ f. IsFirstFrom mode
   lines = refl;
   line = omega arith;
   lawful = tt;
-  kind = said;
+  kind = kind;
+  said = said;
+  numbered = refl;
 })
 
 first_from : (mode : Mode) (number : ℕ) (texts : List (List ℕ)) (fault : ScriptFault) → script_from mode number texts ≡ Err fault
@@ -53,10 +61,11 @@ first_from : (mode : Mode) (number : ℕ) (texts : List (List ℕ)) (fault : Scr
 first_from mode number [] fault is = absurd (cc)
 first_from mode number (text ∷ texts) fault is =
     go (line_says mode text) refl (script_from mode (number + 1) texts) (first_from mode (number + 1) texts fault) is where
-      go : (said : Result (Option Said) ℕ) → line_says mode text ≡ said → (others : Result (List Line) ScriptFault)
+      go : (said : Result (Option Said) ScriptFaultKind) → line_says mode text ≡ said → (others : Result (List Line) ScriptFault)
           → (others ≡ Err fault → IsFirstFrom mode (number + 1) texts fault) → onto (line_from number said) others ≡ Err fault
           → IsFirstFrom mode number (text ∷ texts) fault
-      go (Err kind) said others rest so = let same : record { line = number; kind = kind } ≡ fault = cc in here mode number text texts kind fault said same
+      go (Err kind) said others rest so =
+          let same : record { line = number; kind = kind_number kind } ≡ fault = cc in here mode number text texts kind fault said same
       go (Ok None) said others rest so = later mode number text texts fault (rw said refl) (rest so)
       go (Ok (Some one)) said (Err other) rest so = later mode number text texts fault (rw said refl) (rest so)
       go (Ok (Some one)) said (Ok lines) rest so = absurd (cc)
@@ -70,6 +79,8 @@ first_of_lines mode bytes fault is = let first = first_from mode 1 (lines_of byt
   number = omega (arith, first.line);
   lawful = first.lawful;
   kind = first.kind;
+  said = first.said;
+  numbered = first.numbered;
 }
 
 pub first_fault : (mode : Mode) (bytes : List ℕ) (fault : ScriptFault) → script_of mode bytes ≡ Err fault → 0 < fault.line → IsFirstFault mode bytes fault

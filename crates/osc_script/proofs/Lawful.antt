@@ -17,7 +17,8 @@ use Rattle.osc_script.specs.declared.line.Line.{Line}
 use Rattle.osc_script.specs.declared.mode.Mode.{Mode}
 use Rattle.osc_script.specs.declared.mode.Mode.TheVariants.{Plain, Lanes, Serve}
 use Rattle.osc_script.specs.declared.fault.ScriptFault.{ScriptFault}
-use Rattle.osc_script.specs.Kinds.{word_kind, count_kind, address_kind, tag_kind, lane_kind, not_here_kind}
+use Rattle.osc_script.specs.declared.fault.ScriptFaultKind.{ScriptFaultKind}
+use Rattle.osc_script.specs.declared.fault.ScriptFaultKind.TheVariants as kinds
 use Rattle.osc_script.specs.Words.{words_of, is_line_feed, lines_from, lines_of}
 use Rattle.osc_script.specs.Acts.{and_then, only_of, pump_of, decoded, address_of, packet_of, moment_of, act_of, is_known, has_count, served_of, IsLawfulAct}
 use Rattle.osc_script.specs.Lanes.{number_of, within_lanes, lane_of}
@@ -25,23 +26,26 @@ use Rattle.osc_script.specs.Scripts.{on_lane, in_lane, said_of, words_by, line_s
 use Rattle.osc_script.proofs.Lines.{behind}
 
 -- where a step on what was read gives a value, there was one
-step_ok : {X Y : Type 0} (read : Result X ℕ) (next : X → Result Y ℕ) (value : Y) → and_then read next ≡ Ok value → (x : X) × (read ≡ Ok x) × (next x ≡ Ok value)
+step_ok : {X Y K : Type 0} (read : Result X K) (next : X → Result Y K) (value : Y) → and_then read next ≡ Ok value
+    → (x : X) × (read ≡ Ok x) × (next x ≡ Ok value)
 step_ok (Ok x) next value is = (x, refl, is)
 step_ok (Err kind) next value is = absurd (cc)
 
-lawful_operand : (operand address : List ℕ) → cond {A = Result (List ℕ) ℕ} (is_address operand) (Ok operand) (Err address_kind) ≡ Ok address
+lawful_operand : (operand address : List ℕ)
+    → cond {A = Result (List ℕ) ScriptFaultKind} (is_address operand) (Ok operand) (Err kinds.Address) ≡ Ok address
     → IsTrue (is_address address)
 lawful_operand operand address is = go (is_address operand) refl is where
-  go : (t : Bool) → is_address operand ≡ t → cond {A = Result (List ℕ) ℕ} t (Ok operand) (Err address_kind) ≡ Ok address → IsTrue (is_address address)
+  go : (t : Bool) → is_address operand ≡ t
+      → cond {A = Result (List ℕ) ScriptFaultKind} t (Ok operand) (Err kinds.Address) ≡ Ok address → IsTrue (is_address address)
   go true lawful so = let same : operand ≡ address = cc in subst (λ a. IsTrue (is_address a)) same lawful
   go false lawful so = absurd (cc)
 
 address_lawful : (address : List ℕ) (words : List (List ℕ)) → address_of words ≡ Ok address → IsTrue (is_address address)
 address_lawful address words is =
-    let got = step_ok (only_of words) (λ operand. cond (is_address operand) (Ok operand) (Err address_kind)) address is in
+    let got = step_ok (only_of words) (λ operand. cond (is_address operand) (Ok operand) (Err kinds.Address)) address is in
     lawful_operand got.0 address got.2
 
-decoded_ok : (kind : ℕ) (read : Result (List ℕ) FromHexError) (bytes : List ℕ) → decoded kind read ≡ Ok bytes → read ≡ Ok bytes
+decoded_ok : (kind : ScriptFaultKind) (read : Result (List ℕ) FromHexError) (bytes : List ℕ) → decoded kind read ≡ Ok bytes → read ≡ Ok bytes
 decoded_ok kind (Ok more) bytes is = let same : more ≡ bytes = cc in ap Ok same
 decoded_ok kind (Err fault) bytes is = absurd (cc)
 
@@ -51,11 +55,11 @@ eight_bytes bytes moment each is = omega (arith, is, each 0, each 1, each 2, eac
 
 moment_small : (words : List (List ℕ)) (moment : ℕ) → moment_of words ≡ Ok moment → moment < 2 ^ 64
 moment_small words moment is =
-    let got = step_ok (only_of words) (λ digits. and_then (decoded tag_kind (decode_sized digits 8)) (λ bytes. Ok (from_be_bytes w64 bytes))) moment is in
+    let got = step_ok (only_of words) (λ digits. and_then (decoded kinds.Tag (decode_sized digits 8)) (λ bytes. Ok (from_be_bytes w64 bytes))) moment is in
     let digits : List ℕ = got.0 in
-    let read = step_ok (decoded tag_kind (decode_sized digits 8)) (λ bytes. Ok (from_be_bytes w64 bytes)) moment got.2 in
+    let read = step_ok (decoded kinds.Tag (decode_sized digits 8)) (λ bytes. Ok (from_be_bytes w64 bytes)) moment got.2 in
     let bytes : List ℕ = read.0 in
-    let sized : decode_sized digits 8 ≡ Ok bytes = decoded_ok tag_kind (decode_sized digits 8) bytes read.1 in
+    let sized : decode_sized digits 8 ≡ Ok bytes = decoded_ok kinds.Tag (decode_sized digits 8) bytes read.1 in
     let long : length digits ≡ 2 * 8 = decode_sized-ok digits 8 bytes sized in
     let parts = decode_of-ok digits bytes (sym (decode_sized-twice digits 8 long) ∙ sized) in
     let same : from_be_bytes w64 bytes ≡ moment = cc in
@@ -74,7 +78,8 @@ act_lawful word words act said =
           → cond adds (and_then (address_of words) (λ address. Ok (Add address)))
           (cond removes (and_then (address_of words) (λ address. Ok (Remove address)))
           (cond sends (and_then (packet_of words) (λ packet. Ok (Send packet)))
-          (cond ticks (and_then (moment_of words) (λ moment. Ok (Tick moment))) (cond {A = Result Act ℕ} pumps (pump_of words) (Err word_kind))))) ≡ Ok act
+          (cond ticks (and_then (moment_of words) (λ moment. Ok (Tick moment)))
+          (cond {A = Result Act ScriptFaultKind} pumps (pump_of words) (Err kinds.Word))))) ≡ Ok act
           → IsLawfulAct act
       go true removes sends ticks pumps so =
           let got = step_ok (address_of words) (λ address. Ok (Add address)) act so in
@@ -112,7 +117,8 @@ served_lawful : (word : List ℕ) (words : List (List ℕ)) (act : Act) → serv
 unfolding served_of
 served_lawful word words act said = go (bytes_eq word (codes "add")) refl (is_known word) (has_count word (length words)) said where
   go : (adds : Bool) → bytes_eq word (codes "add") ≡ adds → (known counted : Bool)
-      → cond adds (act_of word words) (cond known (cond {A = Result Act ℕ} counted (Err not_here_kind) (Err count_kind)) (Err word_kind)) ≡ Ok act
+      → cond adds (act_of word words)
+      (cond known (cond {A = Result Act ScriptFaultKind} counted (Err kinds.NotHere) (Err kinds.Count)) (Err kinds.Word)) ≡ Ok act
       → IsLawfulAct act × ((address : List ℕ) × (act ≡ Add address))
   go true adds known counted so = (act_lawful word words act so, added word words act adds so)
   go false adds true true so = absurd (cc)
@@ -120,15 +126,15 @@ served_lawful word words act said = go (bytes_eq word (codes "add")) refl (is_kn
   go false adds false counted so = absurd (cc)
 
 -- an act in a lane is that act in that lane
-laned : (lane : ℕ) (read : Result Act ℕ) (said : Said) → on_lane lane read ≡ Ok said → (read ≡ Ok said.act) × (said.lane ≡ lane)
+laned : (lane : ℕ) (read : Result Act ScriptFaultKind) (said : Said) → on_lane lane read ≡ Ok said → (read ≡ Ok said.act) × (said.lane ≡ lane)
 laned lane (Ok act) said is = let same : record { lane = lane; act = act } ≡ said = cc in
     (ap (λ (s : Said). Ok s.act) same, sym (ap (λ (s : Said). s.lane) same))
 laned lane (Err kind) said is = absurd (cc)
 
-lane_small : (number : Option ℕ) (lane : ℕ) → ok_or (within_lanes number) lane_kind ≡ Ok lane → lane < 16
+lane_small : (number : Option ℕ) (lane : ℕ) → ok_or (within_lanes number) kinds.Lane ≡ Ok lane → lane < 16
 lane_small None lane is = absurd (cc)
 lane_small (Some number) lane is = go (nat_lt number 16) refl is where
-  go : (t : Bool) → nat_lt number 16 ≡ t → ok_or (cond t (Some number) None) lane_kind ≡ Ok lane → lane < 16
+  go : (t : Bool) → nat_lt number 16 ≡ t → ok_or (cond t (Some number) None) kinds.Lane ≡ Ok lane → lane < 16
   go true small so = let same : number ≡ lane = cc in subst (λ n. n < 16) same (ltb-true number 16 small)
   go false small so = absurd (cc)
 
@@ -151,7 +157,7 @@ said_fits Plain number word words said is =
     let got = laned 0 (act_of word words) said is in
     (act_lawful word words said.act got.0, got.1)
 said_fits Lanes number word words said is =
-    let got = step_ok (ok_or (lane_of word) lane_kind) (λ lane. in_lane lane words) said is in
+    let got = step_ok (ok_or (lane_of word) kinds.Lane) (λ lane. in_lane lane words) said is in
     let on = in_lane_lawful got.0 words said got.2 in
     (on.0, subst (λ n. n < 16) (sym on.1) (lane_small (number_of word) got.0 got.1))
 said_fits Serve number word words said is =
@@ -168,12 +174,13 @@ words_fit mode number (word ∷ operands) said is =
 
 text_fits : (mode : Mode) (number : ℕ) (text : List ℕ) (said : Said) → line_says mode text ≡ Ok (Some said) → Fits mode (numbered number said)
 text_fits mode number text said is = go (starts_with eqb text (codes "#")) is where
-  go : (t : Bool) → cond {A = Result (Option Said) ℕ} t (Ok None) (words_by (said_of mode) (words_of text)) ≡ Ok (Some said) → Fits mode (numbered number said)
+  go : (t : Bool) → cond {A = Result (Option Said) ScriptFaultKind} t (Ok None) (words_by (said_of mode) (words_of text)) ≡ Ok (Some said)
+      → Fits mode (numbered number said)
   go true so = absurd (cc)
   go false so = words_fit mode number (words_of text) said so
 
 -- one line more
-onto_fits : (mode : Mode) (number : ℕ) (read : Result (Option Said) ℕ) (others : Result (List Line) ScriptFault) (lines : List Line)
+onto_fits : (mode : Mode) (number : ℕ) (read : Result (Option Said) ScriptFaultKind) (others : Result (List Line) ScriptFault) (lines : List Line)
     → ((said : Said) → read ≡ Ok (Some said) → Fits mode (numbered number said))
     → ((more : List Line) → others ≡ Ok more → AreLawful more × AreOf mode more) → onto (line_from number read) others ≡ Ok lines
     → AreLawful lines × AreOf mode lines
@@ -200,7 +207,7 @@ lines_fit mode lines number (byte ∷ rest) texts none is = absurd (omega arith)
 
 -- how many lines there are
 
-onto_few : (number : ℕ) (read : Result (Option Said) ℕ) (others : Result (List Line) ScriptFault) (lines : List Line) (most : ℕ)
+onto_few : (number : ℕ) (read : Result (Option Said) ScriptFaultKind) (others : Result (List Line) ScriptFault) (lines : List Line) (most : ℕ)
     → ((more : List Line) → others ≡ Ok more → length more ≤ most) → onto (line_from number read) others ≡ Ok lines → length lines ≤ 1 + most
 onto_few number (Err kind) others lines most rest is = absurd (cc)
 onto_few number (Ok None) others lines most rest is = omega (arith, rest lines is)

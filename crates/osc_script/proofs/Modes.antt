@@ -8,22 +8,23 @@ use Rattle.std.proofs.lemmas.Fmt.{decimal_digit}
 use Rattle.std.proofs.lemmas.Bool.{ltb-true}
 use Rattle.std.proofs.lemmas.Bool.Decides.{nat_tests}
 use Rattle.osc_script.specs.declared.act.Act.{Act}
+use Rattle.osc_script.specs.declared.fault.ScriptFaultKind.{ScriptFaultKind}
+use Rattle.osc_script.specs.declared.fault.ScriptFaultKind.TheVariants as kinds
 use Rattle.osc_script.specs.declared.mode.Mode.TheVariants.{Lanes}
-use Rattle.osc_script.specs.Kinds.{word_kind, count_kind, lane_kind, not_here_kind}
 use Rattle.osc_script.specs.Lanes.{digit_of, two_digits, number_of, within_lanes, lane_of}
 use Rattle.osc_script.specs.Acts.{and_then, act_of, is_known, has_count, served_of}
 use Rattle.osc_script.specs.Scripts.{on_lane, in_lane, said_of}
 use Rattle.osc_script.proofs.Operands.{unknown_word, wrong_count}
 
-pub no_lane : (word : List ℕ) (words : List (List ℕ)) → lane_of word ≡ None → said_of Lanes word words ≡ Err lane_kind
-no_lane word words none = ap (λ read. and_then (ok_or read lane_kind) (λ lane. in_lane lane words)) none
+pub no_lane : (word : List ℕ) (words : List (List ℕ)) → lane_of word ≡ None → said_of Lanes word words ≡ Err kinds.Lane
+no_lane word words none = ap (λ read. and_then (ok_or read kinds.Lane) (λ lane. in_lane lane words)) none
 
-pub bare_lane : (word : List ℕ) (lane : ℕ) → lane_of word ≡ Some lane → said_of Lanes word [] ≡ Err count_kind
-bare_lane word lane is = ap (λ read. and_then (ok_or read lane_kind) (λ lane. in_lane lane [])) is
+pub bare_lane : (word : List ℕ) (lane : ℕ) → lane_of word ≡ Some lane → said_of Lanes word [] ≡ Err kinds.Count
+bare_lane word lane is = ap (λ read. and_then (ok_or read kinds.Lane) (λ lane. in_lane lane [])) is
 
 pub behind_lane : (word next : List ℕ) (words : List (List ℕ)) (lane : ℕ) → lane_of word ≡ Some lane
     → said_of Lanes word (next ∷ words) ≡ on_lane lane (act_of next words)
-behind_lane word next words lane is = ap (λ read. and_then (ok_or read lane_kind) (λ lane. in_lane lane (next ∷ words))) is
+behind_lane word next words lane is = ap (λ read. and_then (ok_or read kinds.Lane) (λ lane. in_lane lane (next ∷ words))) is
 
 pub lane_again : (lane : ℕ) → lane < 16 → lane_of (decimal lane) ≡ Some lane
 unfolding digits
@@ -113,29 +114,29 @@ unfolding served_of
 add_served word operands is = rw is refl
 
 -- the mode's rule, by its three tests
-abbrev served : (adds known counted : Bool) → List ℕ → List (List ℕ) → Result Act ℕ
+abbrev served : (adds known counted : Bool) → List ℕ → List (List ℕ) → Result Act ScriptFaultKind
 served adds known counted word operands =
-    cond adds (act_of word operands) (cond known (cond {A = Result Act ℕ} counted (Err not_here_kind) (Err count_kind)) (Err word_kind))
+    cond adds (act_of word operands) (cond known (cond {A = Result Act ScriptFaultKind} counted (Err kinds.NotHere) (Err kinds.Count)) (Err kinds.Word))
 
-pub unknown_served : (word : List ℕ) (operands : List (List ℕ)) → is_known word ≡ false → served_of word operands ≡ Err word_kind
+pub unknown_served : (word : List ℕ) (operands : List (List ℕ)) → is_known word ≡ false → served_of word operands ≡ Err kinds.Word
 unfolding served_of
 unknown_served word operands unknown = go (bytes_eq word (codes "add")) where
-  go : (adds : Bool) → served adds (is_known word) (has_count word (length operands)) word operands ≡ Err word_kind
+  go : (adds : Bool) → served adds (is_known word) (has_count word (length operands)) word operands ≡ Err kinds.Word
   go true = unknown_word word operands unknown
   go false = ap (λ known. served false known (has_count word (length operands)) word operands) unknown
 
 pub miscounted_served : (word : List ℕ) (operands : List (List ℕ)) → is_known word ≡ true → has_count word (length operands) ≡ false
-    → served_of word operands ≡ Err count_kind
+    → served_of word operands ≡ Err kinds.Count
 unfolding served_of
 miscounted_served word operands known many = go (bytes_eq word (codes "add")) where
-  go : (adds : Bool) → served adds (is_known word) (has_count word (length operands)) word operands ≡ Err count_kind
+  go : (adds : Bool) → served adds (is_known word) (has_count word (length operands)) word operands ≡ Err kinds.Count
   go true = wrong_count word operands known many
   go false =
       ap (λ known. served false known (has_count word (length operands)) word operands) known
       ∙ ap (λ counted. served false true counted word operands) many
 
 pub other_served : (word : List ℕ) (operands : List (List ℕ)) → is_known word ≡ true → has_count word (length operands) ≡ true
-    → bytes_eq word (codes "add") ≡ false → served_of word operands ≡ Err not_here_kind
+    → bytes_eq word (codes "add") ≡ false → served_of word operands ≡ Err kinds.NotHere
 unfolding served_of
 other_served word operands known many other =
     ap (λ adds. served adds (is_known word) (has_count word (length operands)) word operands) other

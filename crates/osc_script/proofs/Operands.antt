@@ -11,10 +11,11 @@ use Rattle.hex.specs.declared.error.FromHexError.{FromHexError}
 use Rattle.hex.proofs.HexLemmas.{decode_of-ok, decode_of-digits, IsOk-decode_sized, decode_of-encode_lower, decode_of-encode_upper, decode_sized-encode_lower}
 use Rattle.osc_script.specs.declared.act.Act.{Act}
 use Rattle.osc_script.specs.declared.act.Act.TheVariants.{Add, Remove, Send, Tick}
-use Rattle.osc_script.specs.Kinds.{word_kind, count_kind, hex_kind, tag_kind}
+use Rattle.osc_script.specs.declared.fault.ScriptFaultKind.{ScriptFaultKind}
+use Rattle.osc_script.specs.declared.fault.ScriptFaultKind.TheVariants as kinds
 use Rattle.osc_script.specs.Acts.{and_then, only_of, pump_of, decoded, address_of, packet_of, moment_of, act_of, is_known, has_count}
 
-pub unknown_word : (word : List ℕ) (operands : List (List ℕ)) → is_known word ≡ false → act_of word operands ≡ Err word_kind
+pub unknown_word : (word : List ℕ) (operands : List (List ℕ)) → is_known word ≡ false → act_of word operands ≡ Err kinds.Word
 unfolding act_of
 unknown_word word operands unknown =
     go (bytes_eq word (codes "add")) (bytes_eq word (codes "remove")) (bytes_eq word (codes "send")) (bytes_eq word (codes "tick"))
@@ -23,8 +24,9 @@ unknown_word word operands unknown =
           → cond adds (and_then (address_of operands) (λ address. Ok (Add address)))
           (cond removes (and_then (address_of operands) (λ address. Ok (Remove address)))
           (cond sends (and_then (packet_of operands) (λ packet. Ok (Send packet)))
-          (cond ticks (and_then (moment_of operands) (λ moment. Ok (Tick moment))) (cond {A = Result Act ℕ} pumps (pump_of operands) (Err word_kind)))))
-          ≡ Err word_kind
+          (cond ticks (and_then (moment_of operands) (λ moment. Ok (Tick moment)))
+          (cond {A = Result Act ScriptFaultKind} pumps (pump_of operands) (Err kinds.Word)))))
+          ≡ Err kinds.Word
       go false false false false false known = refl
       go true removes sends ticks pumps known = absurd (cc)
       go false true sends ticks pumps known = absurd (cc)
@@ -32,21 +34,21 @@ unknown_word word operands unknown =
       go false false false true pumps known = absurd (cc)
       go false false false false true known = absurd (cc)
 
-not_one : (operands : List (List ℕ)) → eqb (length operands) 1 ≡ false → only_of operands ≡ Err count_kind
+not_one : (operands : List (List ℕ)) → eqb (length operands) 1 ≡ false → only_of operands ≡ Err kinds.Count
 not_one [] many = refl
 not_one (operand ∷ []) many = absurd (cc)
 not_one (operand ∷ next ∷ operands) many = refl
 
-some_for_pump : (operands : List (List ℕ)) → eqb (length operands) 0 ≡ false → pump_of operands ≡ Err count_kind
+some_for_pump : (operands : List (List ℕ)) → eqb (length operands) 0 ≡ false → pump_of operands ≡ Err kinds.Count
 some_for_pump [] many = absurd (cc)
 some_for_pump (operand ∷ operands) many = refl
 
-stays : {X Y : Type 0} (read : Result X ℕ) (next : X → Result Y ℕ) (kind : ℕ) → read ≡ Err kind → and_then read next ≡ Err kind
+stays : {X Y K : Type 0} (read : Result X K) (next : X → Result Y K) (kind : K) → read ≡ Err kind → and_then read next ≡ Err kind
 stays (Ok x) next kind is = absurd (cc)
 stays (Err other) next kind is = let same : other ≡ kind = cc in ap Err same
 
 pub wrong_count : (word : List ℕ) (operands : List (List ℕ)) → is_known word ≡ true → has_count word (length operands) ≡ false
-    → act_of word operands ≡ Err count_kind
+    → act_of word operands ≡ Err kinds.Count
 unfolding act_of
 wrong_count word operands known many =
     go (bytes_eq word (codes "add")) (bytes_eq word (codes "remove")) (bytes_eq word (codes "send")) (bytes_eq word (codes "tick"))
@@ -57,33 +59,34 @@ wrong_count word operands known many =
           → cond adds (and_then (address_of operands) (λ address. Ok (Add address)))
           (cond removes (and_then (address_of operands) (λ address. Ok (Remove address)))
           (cond sends (and_then (packet_of operands) (λ packet. Ok (Send packet)))
-          (cond ticks (and_then (moment_of operands) (λ moment. Ok (Tick moment))) (cond {A = Result Act ℕ} pumps (pump_of operands) (Err word_kind)))))
-          ≡ Err count_kind
+          (cond ticks (and_then (moment_of operands) (λ moment. Ok (Tick moment)))
+          (cond {A = Result Act ScriptFaultKind} pumps (pump_of operands) (Err kinds.Word)))))
+          ≡ Err kinds.Count
       go true removes sends ticks pumps is other =
-          stays (address_of operands) (λ address. Ok (Add address)) count_kind (stays (only_of operands) _ count_kind (not_one operands other))
+          stays (address_of operands) (λ address. Ok (Add address)) kinds.Count (stays (only_of operands) _ kinds.Count (not_one operands other))
       go false true sends ticks pumps is other =
-          stays (address_of operands) (λ address. Ok (Remove address)) count_kind (stays (only_of operands) _ count_kind (not_one operands other))
+          stays (address_of operands) (λ address. Ok (Remove address)) kinds.Count (stays (only_of operands) _ kinds.Count (not_one operands other))
       go false false true ticks pumps is other = absurd (cc)
       go false false false true pumps is other =
-          stays (moment_of operands) (λ moment. Ok (Tick moment)) count_kind (stays (only_of operands) _ count_kind (not_one operands other))
+          stays (moment_of operands) (λ moment. Ok (Tick moment)) kinds.Count (stays (only_of operands) _ kinds.Count (not_one operands other))
       go false false false false true is other = some_for_pump operands other
       go false false false false false is other = absurd (cc)
 
 -- digits are decoded where they are read
-decoded_is_ok : (kind : ℕ) (read : Result (List ℕ) FromHexError) → IsOk (decoded kind read) ↔ ((bytes : List ℕ) × (read ≡ Ok bytes))
+decoded_is_ok : (kind : ScriptFaultKind) (read : Result (List ℕ) FromHexError) → IsOk (decoded kind read) ↔ ((bytes : List ℕ) × (read ≡ Ok bytes))
 decoded_is_ok kind (Ok bytes) = (λ is. (bytes, refl), λ is. refl)
 decoded_is_ok kind (Err fault) = (λ is. absurd (cc), λ is. absurd (cc is.1))
 
 pub packet_digits : (words : List (List ℕ)) → IsOk (packet_of words) ↔ ((length (concat words) % 2 ≡ 0) × AllPass is_hex_digit (concat words))
 packet_digits words = (
   λ is.
-      let got = (decoded_is_ok hex_kind (decode_of (concat words))).0 is in
+      let got = (decoded_is_ok kinds.Hex (decode_of (concat words))).0 is in
       let parts = decode_of-ok (concat words) got.0 got.1 in
       (parts.0, parts.1),
-  λ digits. (decoded_is_ok hex_kind (decode_of (concat words))).1 (decode_of-digits (concat words) digits.0 digits.1),
+  λ digits. (decoded_is_ok kinds.Hex (decode_of (concat words))).1 (decode_of-digits (concat words) digits.0 digits.1),
 )
 
-moment_is_ok : (read : Result (List ℕ) FromHexError) → IsOk (and_then (decoded tag_kind read) (λ bytes. Ok (from_be_bytes w64 bytes))) ↔ IsOk read
+moment_is_ok : (read : Result (List ℕ) FromHexError) → IsOk (and_then (decoded kinds.Tag read) (λ bytes. Ok (from_be_bytes w64 bytes))) ↔ IsOk read
 moment_is_ok (Ok bytes) = (λ is. refl, λ is. refl)
 moment_is_ok (Err fault) = (λ is. absurd (cc is), λ is. absurd (cc is))
 
@@ -94,10 +97,12 @@ moment_digits word = (
 )
 
 pub lower_again : (bytes : List ℕ) → IsBytes bytes → packet_of (encode_lower bytes ∷ []) ≡ Ok bytes
-lower_again bytes each = ap (λ l. decoded hex_kind (decode_of l)) (append-nil (encode_lower bytes)) ∙ ap (decoded hex_kind) (decode_of-encode_lower bytes each)
+lower_again bytes each =
+    ap (λ l. decoded kinds.Hex (decode_of l)) (append-nil (encode_lower bytes)) ∙ ap (decoded kinds.Hex) (decode_of-encode_lower bytes each)
 
 pub upper_again : (bytes : List ℕ) → IsBytes bytes → packet_of (encode_upper bytes ∷ []) ≡ Ok bytes
-upper_again bytes each = ap (λ l. decoded hex_kind (decode_of l)) (append-nil (encode_upper bytes)) ∙ ap (decoded hex_kind) (decode_of-encode_upper bytes each)
+upper_again bytes each =
+    ap (λ l. decoded kinds.Hex (decode_of l)) (append-nil (encode_upper bytes)) ∙ ap (decoded kinds.Hex) (decode_of-encode_upper bytes each)
 
 byte_before : (byte : ℕ) (bytes : List ℕ) → byte < 256 → IsBytes bytes → IsBytes (byte ∷ bytes)
 byte_before byte bytes small each zero = small
@@ -113,6 +118,6 @@ high_first_bytes (suc k) n = byte_before (byte_at k n) (bytes_high_first k n) (b
 
 pub moment_again : (moment : ℕ) → moment < 2 ^ 64 → moment_of (encode_lower (to_be_bytes w64 moment) ∷ []) ≡ Ok moment
 moment_again moment small =
-    ap (λ read. and_then (decoded tag_kind read) (λ bytes. Ok (from_be_bytes w64 bytes)))
+    ap (λ read. and_then (decoded kinds.Tag read) (λ bytes. Ok (from_be_bytes w64 bytes)))
     (decode_sized-encode_lower (to_be_bytes w64 moment) 8 refl (high_first_bytes 8 moment))
     ∙ ap Ok (from_be_bytes-to_be_bytes_8 moment small)

@@ -10,8 +10,8 @@ use Rattle.hex.specs.Hex.{hex_digit_value, is_hex_digit, digit_or_error, value_a
 use Rattle.hex.proofs.HexLemmas.{decode_of-ok}
 use Rattle.hex.proofs.Pairs.{prepend, decode_pairs-ok_pair, prepend-cons_byte}
 use Rattle.osc_script.specs.declared.digits.TheConstants.{VALUES}
+use Rattle.osc_script.specs.declared.fault.ScriptFaultKind.TheVariants as kinds
 use Rattle.osc_script.specs.Words.{is_space, words_of}
-use Rattle.osc_script.specs.Kinds.{hex_kind}
 use Rattle.osc_script.specs.Acts.{decoded, packet_of}
 use Rattle.osc_script.proofs.Cutting.{last_word}
 
@@ -94,7 +94,7 @@ whole (byte ∷ text) none = ap concat (last_word (byte ∷ text) none (omega ar
 pub digits_alone : (text bytes : List ℕ) → decode_of text ≡ Ok bytes → packet_of (words_of text) ≡ Ok bytes
 digits_alone text bytes read =
     let digits = (decode_of-ok text bytes read).1 in
-    ap (λ joined. decoded hex_kind (decode_of joined)) (whole text (λ k d lt. no_space (slice_index_or text k d) (digits k d lt)))
-    ∙ ap (decoded hex_kind) read
+    ap (λ joined. decoded kinds.Hex (decode_of joined)) (whole text (λ k d lt. no_space (slice_index_or text k d) (digits k d lt)))
+    ∙ ap (decoded kinds.Hex) read
 
 pub ruleset digits = (digits_alone)

@@ -1,7 +1,8 @@
 -- What the reading calls answer, where memory may be refused.
-use Rattle.std.specs.Prelude.{◌≡◌, ℕ, List, ◌++◌, Option, Result, Ok, Err, option_to_list}
+use Rattle.std.specs.Prelude.{◌≡◌, List, ◌++◌, Option, Result, Ok, Err, option_to_list}
 use Rattle.osc_script.specs.declared.line.Line.{Line}
 use Rattle.osc_script.specs.declared.fault.ScriptFault.{ScriptFault}
+use Rattle.osc_script.specs.declared.fault.ScriptFaultKind.{ScriptFaultKind}
 use Rattle.osc_script.specs.declared.fault.ScriptRefusal.{ScriptRefusal}
 use Rattle.osc_script.specs.declared.fault.ScriptRefusal.TheVariants.{Fault, NoMemory}
 use Rattle.osc_script.specs.declared.fault.LineRefusal.{LineRefusal}
@@ -14,7 +15,8 @@ Reads (Err (Fault fault)) read = read ≡ Err fault
 Reads (Err NoMemory) read = Unit {0}
 
 -- the same of a line's parts, by the kind of its fault
-abbrev pub Says : {X : Type 0} → Result X LineRefusal → Result X ℕ → Type 0
+abbrev pub Says : {X : Type 0} → Result X (LineRefusal ScriptFaultKind) → Result X ScriptFaultKind
+    → Type 0
 Says (Ok value) said = said ≡ Ok value
 Says (Err (Kind kind)) said = said ≡ Err kind
 Says (Err NoLineMemory) said = Unit {0}

@@ -2,7 +2,9 @@
 use Rattle.std.specs.Prelude.{◌≡◌, ℕ, ◌+◌, List, ◌∷◌, ◌++◌, length, Err, IsOk}
 use Rattle.std.specs.List.{AllByRecursion}
 use Rattle.osc_script.specs.declared.fault.ScriptFault.{ScriptFault}
+use Rattle.osc_script.specs.declared.fault.ScriptFaultKind.{ScriptFaultKind}
 use Rattle.osc_script.specs.declared.mode.Mode.{Mode}
+use Rattle.osc_script.specs.Kinds.{kind_number}
 use Rattle.osc_script.specs.Words.{lines_of}
 use Rattle.osc_script.specs.Scripts.{line_says}
 
@@ -14,4 +16,6 @@ pub record IsFirstFault (mode : Mode) (bytes : List ℕ) (fault : ScriptFault) :
   pub lines : lines_of bytes ≡ before ++ text ∷ after
   pub number : fault.line ≡ length before + 1
   pub lawful : AllByRecursion (λ line. IsOk (line_says mode line)) before
-  pub kind : line_says mode text ≡ Err fault.kind
+  pub kind : ScriptFaultKind
+  pub said : line_says mode text ≡ Err kind
+  pub numbered : fault.kind ≡ kind_number kind

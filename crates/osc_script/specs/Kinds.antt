@@ -1,35 +1,14 @@
--- The kinds of faults of a script, numbered. docs/FORMATS.md has the order in which they are tried.
+-- The numbers of the kinds of faults of a script.
 use Rattle.std.specs.Prelude.{ℕ}
+use Rattle.osc_script.specs.declared.fault.ScriptFaultKind.{ScriptFaultKind}
+use Rattle.osc_script.specs.declared.fault.ScriptFaultKind.TheVariants as kinds
 
--- the input has over 67,108,864 bytes
-abbrev pub too_long_kind : ℕ
-too_long_kind = 1
-
--- an unknown word
-abbrev pub word_kind : ℕ
-word_kind = 2
-
--- a known word with too few or too many words after it, or no word after a lane's number
-abbrev pub count_kind : ℕ
-count_kind = 3
-
--- the operand of `add` or `remove` isn't a lawful address
-abbrev pub address_kind : ℕ
-address_kind = 4
-
--- the joined words of a `send` have a byte that is no hexadecimal digit, or are an odd number of
--- digits
-abbrev pub hex_kind : ℕ
-hex_kind = 5
-
--- the operand of `tick` isn't exactly 16 hexadecimal digits
-abbrev pub tag_kind : ℕ
-tag_kind = 6
-
--- in mode Lanes the first word isn't a lane's number
-abbrev pub lane_kind : ℕ
-lane_kind = 7
-
--- a known word with as many words after it as it takes, which isn't lawful in this mode
-abbrev pub not_here_kind : ℕ
-not_here_kind = 8
+abbrev pub kind_number : ScriptFaultKind → ℕ
+kind_number kinds.TooLong = 1
+kind_number kinds.Word = 2
+kind_number kinds.Count = 3
+kind_number kinds.Address = 4
+kind_number kinds.Hex = 5
+kind_number kinds.Tag = 6
+kind_number kinds.Lane = 7
+kind_number kinds.NotHere = 8

@@ -9,39 +9,41 @@ use Rattle.osc_script.specs.declared.act.Act.TheVariants.{Add}
 use Rattle.osc_script.specs.declared.said.Said.{Said}
 use Rattle.osc_script.specs.declared.line.Line.{Line}
 use Rattle.osc_script.specs.declared.fault.ScriptFault.{ScriptFault}
+use Rattle.osc_script.specs.declared.fault.ScriptFaultKind.{ScriptFaultKind}
+use Rattle.osc_script.specs.declared.fault.ScriptFaultKind.TheVariants as kinds
 use Rattle.osc_script.specs.declared.mode.Mode.{Mode}
 use Rattle.osc_script.specs.declared.mode.Mode.TheVariants.{Plain, Lanes, Serve}
 use Rattle.osc_script.specs.Words.{words_of, lines_of}
-use Rattle.osc_script.specs.Kinds.{too_long_kind, count_kind, lane_kind}
+use Rattle.osc_script.specs.Kinds.{kind_number}
 use Rattle.osc_script.specs.Lanes.{lane_of}
 use Rattle.osc_script.specs.Acts.{and_then, act_of, served_of, IsLawfulAct}
 
 -- an act in this lane, where there is no fault yet
-abbrev pub on_lane : ℕ → Result Act ℕ → Result Said ℕ
+abbrev pub on_lane : ℕ → Result Act ScriptFaultKind → Result Said ScriptFaultKind
 on_lane lane read = and_then read (λ act. Ok (record { lane = lane; act = act }))
 
 -- what the words after a lane's number say; there is one at least
-abbrev pub in_lane : ℕ → List (List ℕ) → Result Said ℕ
-in_lane lane [] = Err count_kind
+abbrev pub in_lane : ℕ → List (List ℕ) → Result Said ScriptFaultKind
+in_lane lane [] = Err kinds.Count
 in_lane lane (word ∷ operands) = on_lane lane (act_of word operands)
 
 -- what a first word and the words after it say where there are no lanes
-abbrev pub plain_says : List ℕ → List (List ℕ) → Result Said ℕ
+abbrev pub plain_says : List ℕ → List (List ℕ) → Result Said ScriptFaultKind
 plain_says word operands = on_lane 0 (act_of word operands)
 
 -- what they say in a mode; in mode Lanes the first word is the lane's number
-abbrev pub said_of : Mode → List ℕ → List (List ℕ) → Result Said ℕ
+abbrev pub said_of : Mode → List ℕ → List (List ℕ) → Result Said ScriptFaultKind
 said_of Plain word operands = plain_says word operands
 said_of Lanes word operands =
-    and_then (ok_or (lane_of word) lane_kind) (λ lane. in_lane lane operands)
+    and_then (ok_or (lane_of word) kinds.Lane) (λ lane. in_lane lane operands)
 said_of Serve word operands = on_lane 0 (served_of word operands)
 
 -- what a line says with its number
-abbrev pub line_from : ℕ → Result (Option Said) ℕ → Result (Option Line) ScriptFault
+abbrev pub line_from : ℕ → Result (Option Said) ScriptFaultKind → Result (Option Line) ScriptFault
 line_from number (Ok None) = Ok None
 line_from number (Ok (Some said)) =
     Ok (Some (record { number = number; lane = said.lane; act = said.act }))
-line_from number (Err kind) = Err (record { line = number; kind = kind })
+line_from number (Err kind) = Err (record { line = number; kind = kind_number kind })
 
 -- a line before others: nothing of one that is skipped, and a fault decides alone
 abbrev pub onto : Result (Option Line) ScriptFault → Result (List Line) ScriptFault
@@ -52,14 +54,14 @@ onto (Ok (Some line)) (Err fault) = Err fault
 onto (Ok (Some line)) (Ok lines) = Ok (line ∷ lines)
 
 -- by what a first word and the words after it say
-module _ (says : List ℕ → List (List ℕ) → Result Said ℕ) where
+module _ (says : List ℕ → List (List ℕ) → Result Said ScriptFaultKind) where
   -- what words say; none say nothing
-  abbrev pub words_by : List (List ℕ) → Result (Option Said) ℕ
+  abbrev pub words_by : List (List ℕ) → Result (Option Said) ScriptFaultKind
   words_by [] = Ok None
   words_by (word ∷ operands) = and_then (says word operands) (λ said. Ok (Some said))
 
   -- what a line says: an act, nothing where it is skipped, or the kind of its fault
-  abbrev pub line_by : List ℕ → Result (Option Said) ℕ
+  abbrev pub line_by : List ℕ → Result (Option Said) ScriptFaultKind
   line_by text = if starts_with nat_eq text (codes "#") then Ok None else words_by (words_of text)
 
   -- the lines, counted from a number on
@@ -71,7 +73,8 @@ module _ (says : List ℕ → List (List ℕ) → Result Said ℕ) where
   -- an input that is too long is a fault in no line
   abbrev pub script_by : List ℕ → Result (List Line) ScriptFault
   script_by bytes =
-      if nat_lt MAX_SCRIPT (length bytes) then Err (record { line = 0; kind = too_long_kind })
+      if nat_lt MAX_SCRIPT (length bytes)
+      then Err (record { line = 0; kind = kind_number kinds.TooLong })
       else lines_by 1 (lines_of bytes)
 
 -- the lines of a script without lanes, or its first fault
@@ -87,7 +90,7 @@ abbrev pub script_from : Mode → ℕ → List (List ℕ) → Result (List Line)
 script_from mode number texts = lines_by (said_of mode) number texts
 
 -- what one line says in a mode
-abbrev pub line_says : Mode → List ℕ → Result (Option Said) ℕ
+abbrev pub line_says : Mode → List ℕ → Result (Option Said) ScriptFaultKind
 line_says mode text = line_by (said_of mode) text
 
 -- each line's act is lawful

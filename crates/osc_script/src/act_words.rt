@@ -4,7 +4,7 @@ ghost use Rattle.std.specs.List.{concat};
 ghost use Rattle.std.specs.Option.{option_copied};
 ghost use Rattle.osc_script.specs.Words.{words_of};
 ghost use Rattle.hex.specs.Hex.{decode_of};
-ghost use Rattle.osc_script.specs.Kinds.{hex_kind};
+ghost use Rattle.osc_script.specs.declared.fault.ScriptFaultKind.TheVariants as kinds;
 ghost use Rattle.osc_script.specs.Acts;
 ghost use Rattle.osc_script.specs.Acts.{act_of, served_of, only_one, address_of, decoded};
 ghost use Rattle.osc_script.specs.Acts.{packet_of, moment_of, pump_of};
@@ -12,7 +12,7 @@ ghost use Rattle.osc_script.specs.Answers.{Says};
 
 use crate::act::Act;
 use crate::digits::read_digits;
-use crate::fault::{LineRefusal, ScriptFault};
+use crate::fault::{LineRefusal, ScriptFaultKind};
 use crate::words::next_word;
 use hex::{FromHex, FromHexError};
 use osc_atoms::Bytes;
@@ -21,7 +21,11 @@ use std::alloc::{AllocError, Global};
 
 /// What a word and the words after it say.
 #[tactic(auto, unfolding(crate::specs::Acts::act_of))]
-pub(crate) fn read_act(alloc: Global, word: &[u8], operands: &[u8]) -> Result<Act, LineRefusal>
+pub(crate) fn read_act(
+    alloc: Global,
+    word: &[u8],
+    operands: &[u8],
+) -> Result<Act, LineRefusal<ScriptFaultKind>>
     ensures { Says result (act_of word.now (words_of operands.now)) }
 {
     if word == b"add".as_slice() {
@@ -39,24 +43,28 @@ pub(crate) fn read_act(alloc: Global, word: &[u8], operands: &[u8]) -> Result<Ac
     if word == b"pump".as_slice() {
         return read_pump(operands);
     }
-    Err(LineRefusal::Kind(ScriptFault::WORD))
+    Err(LineRefusal::Kind(ScriptFaultKind::Word))
 }
 
 /// What a word and the words after it say in mode `Serve`.
 #[tactic(auto, unfolding(crate::specs::Acts::served_of))]
-pub(crate) fn read_served(alloc: Global, word: &[u8], operands: &[u8]) -> Result<Act, LineRefusal>
+pub(crate) fn read_served(
+    alloc: Global,
+    word: &[u8],
+    operands: &[u8],
+) -> Result<Act, LineRefusal<ScriptFaultKind>>
     ensures { Says result (served_of word.now (words_of operands.now)) }
 {
     if word == b"add".as_slice() {
         return read_act(alloc, word, operands);
     }
     if !is_known(word) {
-        return Err(LineRefusal::Kind(ScriptFault::WORD));
+        return Err(LineRefusal::Kind(ScriptFaultKind::Word));
     }
     if has_count(word, operands) {
-        Err(LineRefusal::Kind(ScriptFault::NOT_HERE))
+        Err(LineRefusal::Kind(ScriptFaultKind::NotHere))
     } else {
-        Err(LineRefusal::Kind(ScriptFault::COUNT))
+        Err(LineRefusal::Kind(ScriptFaultKind::Count))
     }
 }
 
@@ -84,20 +92,20 @@ fn has_count(word: &[u8], operands: &[u8]) -> bool
     next_word(operands).is_none()
 }
 
-fn read_address(alloc: Global, operands: &[u8]) -> Result<Address, LineRefusal>
+fn read_address(alloc: Global, operands: &[u8]) -> Result<Address, LineRefusal<ScriptFaultKind>>
     ensures { Says result (address_of (words_of operands.now)) }
 {
-    let operand = only_word(operands).ok_or(LineRefusal::Kind(ScriptFault::COUNT))?;
+    let operand = only_word(operands).ok_or(LineRefusal::Kind(ScriptFaultKind::Count))?;
     match Address::read(alloc, operand) {
         Ok(address) => Ok(address),
         Err(AddressFault::NoMemory) => Err(LineRefusal::NoMemory),
-        Err(_) => Err(LineRefusal::Kind(ScriptFault::ADDRESS)),
+        Err(_) => Err(LineRefusal::Kind(ScriptFaultKind::Address)),
     }
 }
 
 /// The bytes of a packet's digits, which stand in one word mostly.
 #[tactic(auto, using(crate::proofs::Pairs::digits))]
-fn read_packet(alloc: Global, operands: &[u8]) -> Result<Bytes, LineRefusal>
+fn read_packet(alloc: Global, operands: &[u8]) -> Result<Bytes, LineRefusal<ScriptFaultKind>>
     ensures { Says result (packet_of (words_of operands.now)) }
 {
     if let Some(bytes) = read_digits(alloc, operands)? {
@@ -110,31 +118,31 @@ fn read_packet(alloc: Global, operands: &[u8]) -> Result<Bytes, LineRefusal>
 }
 
 /// The bytes of hexadecimal digits.
-fn decoded(alloc: Global, digits: &[u8]) -> Result<Bytes, LineRefusal>
-    ensures { Says result (decoded hex_kind (decode_of digits.now)) }
+fn decoded(alloc: Global, digits: &[u8]) -> Result<Bytes, LineRefusal<ScriptFaultKind>>
+    ensures { Says result (decoded kinds.Hex (decode_of digits.now)) }
 {
     match hex::decode(alloc, digits) {
         Ok(bytes) => Ok(Bytes::of(bytes)),
         Err(FromHexError::OutOfMemory) => Err(LineRefusal::NoMemory),
-        Err(_) => Err(LineRefusal::Kind(ScriptFault::HEX)),
+        Err(_) => Err(LineRefusal::Kind(ScriptFaultKind::Hex)),
     }
 }
 
-fn read_moment(operands: &[u8]) -> Result<u64, LineRefusal>
+fn read_moment(operands: &[u8]) -> Result<u64, LineRefusal<ScriptFaultKind>>
     ensures { Says result (moment_of (words_of operands.now)) }
 {
-    let operand = only_word(operands).ok_or(LineRefusal::Kind(ScriptFault::COUNT))?;
+    let operand = only_word(operands).ok_or(LineRefusal::Kind(ScriptFaultKind::Count))?;
     match <[u8; 8] as FromHex>::from_hex(operand) {
         Ok(bytes) => Ok(u64::from_be_bytes(bytes)),
-        Err(_) => Err(LineRefusal::Kind(ScriptFault::TAG)),
+        Err(_) => Err(LineRefusal::Kind(ScriptFaultKind::Tag)),
     }
 }
 
-fn read_pump(operands: &[u8]) -> Result<Act, LineRefusal>
+fn read_pump(operands: &[u8]) -> Result<Act, LineRefusal<ScriptFaultKind>>
     ensures { Says result (pump_of (words_of operands.now)) }
 {
     match next_word(operands) {
-        Some(_) => Err(LineRefusal::Kind(ScriptFault::COUNT)),
+        Some(_) => Err(LineRefusal::Kind(ScriptFaultKind::Count)),
         None => Ok(Act::Pump),
     }
 }

@@ -1,7 +1,4 @@
 //! Why a script isn't read.
-ghost use Rattle.std.specs.Prelude.{◌≡◌};
-ghost use Rattle.osc_script.specs.declared.fault.LineRefusal.TheVariants.{NoMemory};
-
 use std::alloc::AllocError;
 use thiserror::Error;
 
@@ -12,28 +9,42 @@ use thiserror::Error;
 pub struct ScriptFault {
     /// The line, counted from 1, or 0 for the whole input.
     pub line: u32,
-    /// One of the numbers below.
+    /// The number of its kind.
     pub kind: u8,
 }
 
-impl ScriptFault {
+/// The kind of a fault.
+#[derive(Clone, Copy, Debug, PartialEq, Eq)]
+pub enum ScriptFaultKind {
     /// The input has over 67,108,864 bytes.
-    pub const TOO_LONG: u8 = 1;
+    TooLong = 1,
     /// An unknown word, whatever follows it.
-    pub const WORD: u8 = 2;
+    Word = 2,
     /// A wrong number of words for a known word, or none after a lane's number.
-    pub const COUNT: u8 = 3;
+    Count = 3,
     /// The operand of `add` or `remove` isn't a lawful address.
-    pub const ADDRESS: u8 = 4;
+    Address = 4,
     /// The joined words of a `send` have a byte that is no hexadecimal digit, or are an odd number
     /// of digits.
-    pub const HEX: u8 = 5;
+    Hex = 5,
     /// The operand of `tick` isn't exactly 16 hexadecimal digits.
-    pub const TAG: u8 = 6;
+    Tag = 6,
     /// In mode `Lanes` the first word isn't a lane's number.
-    pub const LANE: u8 = 7;
+    Lane = 7,
     /// A known word with as many words after it as it takes, which isn't lawful in this mode.
-    pub const NOT_HERE: u8 = 8;
+    NotHere = 8,
+}
+
+impl ScriptFaultKind {
+    ghost use Rattle.std.specs.Prelude.{◌≡◌};
+    ghost use Rattle.osc_script.specs.Kinds.{kind_number};
+
+    /// Its number, which a `ScriptFault` has.
+    pub fn number(self) -> u8
+        ensures { result ≡ kind_number self }
+    {
+        self as u8
+    }
 }
 
 /// Why a script isn't read.
@@ -45,16 +56,19 @@ pub enum ScriptRefusal {
 
 /// Why a line isn't read, of a script or of a score.
 #[derive(Clone, Copy)]
-pub enum LineRefusal {
+pub enum LineRefusal<K> {
     /// The kind of its fault.
-    Kind(u8),
+    Kind(K),
     NoMemory,
 }
 
-impl From<AllocError> for LineRefusal {
+impl<K> From<AllocError> for LineRefusal<K> {
+    ghost use Rattle.std.specs.Prelude.{◌≡◌};
+    ghost use Rattle.osc_script.specs.declared.fault.LineRefusal.TheVariants.{NoMemory};
+
     ghost from_gives = { λ _ r. r ≡ NoMemory };
 
-    fn from(_error: AllocError) -> LineRefusal {
+    fn from(_error: AllocError) -> LineRefusal<K> {
         LineRefusal::NoMemory
     }
 }

@@ -11,11 +11,11 @@ ghost use Rattle.std.specs.Fmt.{decimal};
 ghost use Rattle.hex.specs.Hex.{is_hex_digit, encode_lower, encode_upper, IsBytes};
 ghost use Rattle.osc_script.specs.Words.{is_space, is_line_feed, words_of, without_return};
 ghost use Rattle.osc_script.specs.Words.{lines_of};
-ghost use Rattle.osc_script.specs.Kinds.{word_kind, count_kind, lane_kind, not_here_kind};
 ghost use Rattle.osc_script.specs.Lanes.{lane_of};
 ghost use Rattle.osc_script.specs.Acts.{is_known, has_count, act_of, served_of, packet_of};
 ghost use Rattle.osc_script.specs.Acts.{moment_of};
 ghost use Rattle.osc_script.specs.declared.fault.ScriptFault.{ScriptFault};
+ghost use Rattle.osc_script.specs.declared.fault.ScriptFaultKind.TheVariants as kinds;
 ghost use Rattle.osc_script.specs.declared.act.Act.{Act};
 ghost use Rattle.osc_script.specs.declared.act.Act.TheVariants.{Add, Send, Tick, Pump};
 ghost use Rattle.osc_script.specs.declared.mode.Mode.{Mode};
@@ -71,18 +71,18 @@ pub fn first_fault_decides()
 /// they are.
 pub fn words_are_counted_first()
     ensures unknown { (word : List ℕ) (operands : List (List ℕ)) → is_known word ≡ false
-        → act_of word operands ≡ Err word_kind }
+        → act_of word operands ≡ Err kinds.Word }
     ensures counted { (word : List ℕ) (operands : List (List ℕ)) → is_known word ≡ true
-        → has_count word (length operands) ≡ false → act_of word operands ≡ Err count_kind }
+        → has_count word (length operands) ≡ false → act_of word operands ≡ Err kinds.Count }
 {}
 
 /// In mode `Lanes` the lane decides first, whatever follows it. Then there has to be a word, and
 /// from it on the line says what it says in mode `Plain`.
 pub fn lanes_come_first()
     ensures lane { (word : List ℕ) (words : List (List ℕ)) → lane_of word ≡ None
-        → said_of Lanes word words ≡ Err lane_kind }
+        → said_of Lanes word words ≡ Err kinds.Lane }
     ensures bare { (word : List ℕ) (lane : ℕ) → lane_of word ≡ Some lane
-        → said_of Lanes word [] ≡ Err count_kind }
+        → said_of Lanes word [] ≡ Err kinds.Count }
     ensures behind { (word next : List ℕ) (words : List (List ℕ)) (lane : ℕ)
         → lane_of word ≡ Some lane
         → said_of Lanes word (next ∷ words) ≡ on_lane lane (act_of next words) }
@@ -101,12 +101,12 @@ pub fn serve_takes_adds_alone()
     ensures add { (word : List ℕ) (operands : List (List ℕ)) → bytes_eq word (codes "add") ≡ true
         → served_of word operands ≡ act_of word operands }
     ensures unknown { (word : List ℕ) (operands : List (List ℕ)) → is_known word ≡ false
-        → served_of word operands ≡ Err word_kind }
+        → served_of word operands ≡ Err kinds.Word }
     ensures counted { (word : List ℕ) (operands : List (List ℕ)) → is_known word ≡ true
-        → has_count word (length operands) ≡ false → served_of word operands ≡ Err count_kind }
+        → has_count word (length operands) ≡ false → served_of word operands ≡ Err kinds.Count }
     ensures refused { (word : List ℕ) (operands : List (List ℕ)) → is_known word ≡ true
         → has_count word (length operands) ≡ true → bytes_eq word (codes "add") ≡ false
-        → served_of word operands ≡ Err not_here_kind }
+        → served_of word operands ≡ Err kinds.NotHere }
 {}
 
 /// A `send` has an even number of hexadecimal digits, and a `tick` 16.

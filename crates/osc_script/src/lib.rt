@@ -25,7 +25,7 @@ mod words;
 pub use act::Act;
 pub use drawn_lines::{put_digits, put_line};
 pub use drawn_script::MAX_GENERATED_LINES;
-pub use fault::{LineRefusal, ScriptFault, ScriptRefusal};
+pub use fault::{LineRefusal, ScriptFault, ScriptFaultKind, ScriptRefusal};
 pub use lane::MAX_LANES;
 pub use line::Line;
 pub use mode::Mode;

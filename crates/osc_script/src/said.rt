@@ -6,7 +6,7 @@ ghost use Rattle.osc_script.specs.Answers.{Says};
 
 use crate::act::Act;
 use crate::act_words::{read_act, read_served};
-use crate::fault::{LineRefusal, ScriptFault};
+use crate::fault::{LineRefusal, ScriptFaultKind};
 use crate::lane::lane_of;
 use crate::mode::Mode;
 use crate::words::next_word;
@@ -20,7 +20,11 @@ pub(crate) struct Said {
 }
 
 /// What the line says; nothing where it is skipped.
-pub(crate) fn read_line(alloc: Global, mode: Mode, text: &[u8]) -> Result<Option<Said>, LineRefusal>
+pub(crate) fn read_line(
+    alloc: Global,
+    mode: Mode,
+    text: &[u8],
+) -> Result<Option<Said>, LineRefusal<ScriptFaultKind>>
     ensures { Says result (line_says mode text.now) }
 {
     if text.starts_with(b"#") {
@@ -33,7 +37,12 @@ pub(crate) fn read_line(alloc: Global, mode: Mode, text: &[u8]) -> Result<Option
 }
 
 /// What a first word and the words after it say.
-fn read_words(alloc: Global, mode: Mode, word: &[u8], after: &[u8]) -> Result<Said, LineRefusal>
+fn read_words(
+    alloc: Global,
+    mode: Mode,
+    word: &[u8],
+    after: &[u8],
+) -> Result<Said, LineRefusal<ScriptFaultKind>>
     ensures { Says result (said_of mode word.now (words_of after.now)) }
 {
     match mode {
@@ -42,7 +51,7 @@ fn read_words(alloc: Global, mode: Mode, word: &[u8], after: &[u8]) -> Result<Sa
             Ok(Said { lane: 0, act })
         }
         Mode::Lanes => {
-            let lane = lane_of(word).ok_or(LineRefusal::Kind(ScriptFault::LANE))?;
+            let lane = lane_of(word).ok_or(LineRefusal::Kind(ScriptFaultKind::Lane))?;
             read_in_lane(alloc, lane, after)
         }
         Mode::Serve => {
@@ -53,10 +62,10 @@ fn read_words(alloc: Global, mode: Mode, word: &[u8], after: &[u8]) -> Result<Sa
 }
 
 /// What the words after a lane's number say.
-fn read_in_lane(alloc: Global, lane: u32, text: &[u8]) -> Result<Said, LineRefusal>
+fn read_in_lane(alloc: Global, lane: u32, text: &[u8]) -> Result<Said, LineRefusal<ScriptFaultKind>>
     ensures { Says result (in_lane lane (words_of text.now)) }
 {
-    let (word, operands) = next_word(text).ok_or(LineRefusal::Kind(ScriptFault::COUNT))?;
+    let (word, operands) = next_word(text).ok_or(LineRefusal::Kind(ScriptFaultKind::Count))?;
     let act = read_act(alloc, word, operands)?;
     Ok(Said { lane, act })
 }

@@ -1,6 +1,6 @@
 //! Scripts, read whole.
 use crate::drawn_script::script_of_seed;
-use crate::fault::{ScriptFault, ScriptRefusal};
+use crate::fault::{ScriptFault, ScriptFaultKind, ScriptRefusal};
 use crate::line::Line;
 use crate::mode::Mode;
 use crate::script_lines::read_lines;
@@ -33,7 +33,8 @@ impl Script {
     ghost use Rattle.osc_script.specs.Scripts.{script_of, AreLawful, AreOf};
     ghost use Rattle.osc_script.specs.Generated.{generated_script};
     ghost use Rattle.osc_script.specs.Answers.{Reads};
-    ghost use Rattle.osc_script.specs.Kinds.{too_long_kind};
+    ghost use Rattle.osc_script.specs.Kinds.{kind_number};
+    ghost use Rattle.osc_script.specs.declared.fault.ScriptFaultKind.TheVariants as kinds;
     ghost use Rattle.osc_script.specs.Faults.{IsFirstFault};
     ghost use Rattle.osc_script.specs.declared.fault.ScriptFault.{ScriptFault};
 
@@ -43,8 +44,8 @@ impl Script {
         ensures reads { Reads result (script_of mode bytes.now) }
         ensures first { (fault : ScriptFault) → result ≡ Err (ScriptRefusal.Fault fault)
             → 0 < fault.line → IsFirstFault mode bytes.now fault }
-        ensures long { MAX_SCRIPT < length bytes.now
-            → result ≡ Err (ScriptRefusal.Fault (record { line = 0; kind = too_long_kind })) }
+        ensures long { MAX_SCRIPT < length bytes.now → result
+            ≡ Err (ScriptRefusal.Fault (record { line = 0; kind = kind_number kinds.TooLong })) }
         ensures lawful { IfOk result AreLawful }
         ensures fitting { IfOk result (AreOf mode) }
         ensures few { IfOk result (λ lines. length lines ≤ length bytes.now) }
@@ -53,7 +54,7 @@ impl Script {
         if bytes.len() > MAX_SCRIPT {
             return Err(ScriptRefusal::Fault(ScriptFault {
                 line: 0,
-                kind: ScriptFault::TOO_LONG,
+                kind: ScriptFaultKind::TooLong.number(),
             }));
         }
         read_lines(alloc, bytes, mode)

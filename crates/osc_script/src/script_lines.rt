@@ -54,7 +54,7 @@ fn push_line(
         Ok(None) => Ok(()),
         Err(LineRefusal::Kind(kind)) => Err(ScriptRefusal::Fault(ScriptFault {
             line: number,
-            kind,
+            kind: kind.number(),
         })),
         Err(LineRefusal::NoMemory) => Err(ScriptRefusal::NoMemory),
     }
