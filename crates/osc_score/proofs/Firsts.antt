@@ -2,6 +2,8 @@
 use Rattle.std.proofs.Common.{◌≡◌, ℕ, ◌+◌, List, [], ◌∷◌, ◌++◌, length, Result, Ok, Err, refl, ap, ◌∙◌, subst, arith}
 use Rattle.osc_script.specs.Words.{lines_of}
 use Rattle.osc_score.specs.declared.fault.ScoreFault.{ScoreFault}
+use Rattle.osc_score.specs.declared.fault.ScoreFaultKind.{ScoreFaultKind}
+use Rattle.osc_score.specs.Kinds.{kind_number}
 use Rattle.osc_score.specs.declared.fault.ScoreRefusal.{ScoreRefusal}
 use Rattle.osc_score.specs.declared.fault.ScoreRefusal.TheVariants.{Fault, NoMemory}
 use Rattle.osc_score.specs.declared.score.Score.{Score}
@@ -20,7 +22,9 @@ record IsFirstFrom (number : ℕ) (notes : List Note) (texts : List (List ℕ)) 
   line : fault.line ≡ number + length before
   kept : List Note
   lawful : lines_read number notes before ≡ Ok kept
-  kind : line_read kept text ≡ Err fault.kind
+  kind : ScoreFaultKind
+  said : line_read kept text ≡ Err kind
+  numbered : fault.kind ≡ kind_number kind
 
 later : (number : ℕ) (notes more : List Note) (text : List ℕ) (texts : List (List ℕ)) (fault : ScoreFault) → line_read notes text ≡ Ok more
     → IsFirstFrom (number + 1) more texts fault → IsFirstFrom number notes (text ∷ texts) fault
@@ -33,10 +37,12 @@ later number notes more text texts fault is first = record {
   kept = first.kept;
   lawful = read_ok number notes more text first.before is ∙ first.lawful;
   kind = first.kind;
+  said = first.said;
+  numbered = first.numbered;
 }
 
-here : (number : ℕ) (notes : List Note) (text : List ℕ) (texts : List (List ℕ)) (kind : ℕ) (fault : ScoreFault) → line_read notes text ≡ Err kind
-    → record { line = number; kind = kind } ≡ fault → IsFirstFrom number notes (text ∷ texts) fault
+here : (number : ℕ) (notes : List Note) (text : List ℕ) (texts : List (List ℕ)) (kind : ScoreFaultKind) (fault : ScoreFault) → line_read notes text ≡ Err kind
+    → record { line = number; kind = kind_number kind } ≡ fault → IsFirstFrom number notes (text ∷ texts) fault
 here number notes text texts kind fault is same = subst (λ f. IsFirstFrom number notes (text ∷ texts) f) same (record {
   before = [];
   text = text;
@@ -45,7 +51,9 @@ here number notes text texts kind fault is same = subst (λ f. IsFirstFrom numbe
   line = omega arith;
   kept = notes;
   lawful = refl;
-  kind = is;
+  kind = kind;
+  said = is;
+  numbered = refl;
 })
 
 first_from : (number : ℕ) (notes : List Note) (texts : List (List ℕ)) (fault : ScoreFault) → lines_read number notes texts ≡ Err fault
@@ -53,16 +61,16 @@ first_from : (number : ℕ) (notes : List Note) (texts : List (List ℕ)) (fault
 first_from number notes [] fault is = absurd (cc)
 first_from number notes (text ∷ texts) fault is =
     go (line_read notes text) refl (λ more so. first_from (number + 1) more texts fault so) is where
-      go : (r : Result (List Note) ℕ) → line_read notes text ≡ r
+      go : (r : Result (List Note) ScoreFaultKind) → line_read notes text ≡ r
           → ((more : List Note) → lines_read (number + 1) more texts ≡ Err fault → IsFirstFrom (number + 1) more texts fault)
           → (elim r as (λ x. Result (List Note) ScoreFault) [
             | Ok more ↦ lines_read (number + 1) more texts
-            | Err kind ↦ Err (record { line = number; kind = kind })
+            | Err kind ↦ Err (record { line = number; kind = kind_number kind })
           ]) ≡ Err fault
           → IsFirstFrom number notes (text ∷ texts) fault
       go (Ok more) read rest so = later number notes more text texts fault read (rest more so)
       go (Err kind) read rest so =
-          let same : record { line = number; kind = kind } ≡ fault = cc in here number notes text texts kind fault read same
+          let same : record { line = number; kind = kind_number kind } ≡ fault = cc in here number notes text texts kind fault read same
 
 first_of_lines : (bytes : List ℕ) (fault : ScoreFault) → lines_read 1 [] (lines_of bytes) ≡ Err fault → IsFirstFault bytes fault
 first_of_lines bytes fault is = let first = first_from 1 [] (lines_of bytes) fault is in record {
@@ -74,6 +82,8 @@ first_of_lines bytes fault is = let first = first_from 1 [] (lines_of bytes) fau
   notes = first.kept;
   lawful = first.lawful;
   kind = first.kind;
+  said = first.said;
+  numbered = first.numbered;
 }
 
 -- the same of what is answered

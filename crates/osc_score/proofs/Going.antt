@@ -4,6 +4,8 @@ use Rattle.std.proofs.Common.{◌≡◌, ℕ, ◌+◌, ◌≤◌, List, [], ◌�
 use Rattle.osc_script.specs.Words.{lines_of}
 use Rattle.osc_score.specs.declared.reader.Reader.{Reader}
 use Rattle.osc_score.specs.declared.fault.ScoreFault.{ScoreFault}
+use Rattle.osc_score.specs.declared.fault.ScoreFaultKind.{ScoreFaultKind}
+use Rattle.osc_score.specs.Kinds.{kind_number}
 use Rattle.osc_script.specs.declared.fault.LineRefusal.TheVariants.{Kind}
 use Rattle.osc_score.specs.Scores.{Note}
 use Rattle.osc_score.specs.Reading.{line_read, lines_read}
@@ -27,17 +29,17 @@ on_reading reader number rest all on = record { notes = on.notes; kept = on.kept
 pub read_ok : (number : ℕ) (notes more : List Note) (text : List ℕ) (texts : List (List ℕ)) → line_read notes text ≡ Ok more
     → lines_read number notes (text ∷ texts) ≡ lines_read (number + 1) more texts
 read_ok number notes more text texts is =
-    ap (λ (r : Result (List Note) ℕ). elim r as (λ x. Result (List Note) ScoreFault) [
+    ap (λ (r : Result (List Note) ScoreFaultKind). elim r as (λ x. Result (List Note) ScoreFault) [
       | Ok more ↦ lines_read (number + 1) more texts
-      | Err kind ↦ Err (record { line = number; kind = kind })
+      | Err kind ↦ Err (record { line = number; kind = kind_number kind })
     ]) is
 
-read_err : (number : ℕ) (notes : List Note) (kind : ℕ) (text : List ℕ) (texts : List (List ℕ)) → line_read notes text ≡ Err kind
-    → lines_read number notes (text ∷ texts) ≡ Err (record { line = number; kind = kind })
+read_err : (number : ℕ) (notes : List Note) (kind : ScoreFaultKind) (text : List ℕ) (texts : List (List ℕ)) → line_read notes text ≡ Err kind
+    → lines_read number notes (text ∷ texts) ≡ Err (record { line = number; kind = kind_number kind })
 read_err number notes kind text texts is =
-    ap (λ (r : Result (List Note) ℕ). elim r as (λ x. Result (List Note) ScoreFault) [
+    ap (λ (r : Result (List Note) ScoreFaultKind). elim r as (λ x. Result (List Note) ScoreFault) [
       | Ok more ↦ lines_read (number + 1) more texts
-      | Err kind ↦ Err (record { line = number; kind = kind })
+      | Err kind ↦ Err (record { line = number; kind = kind_number kind })
     ]) is
 
 -- a line is read, and the rest is read on
@@ -49,7 +51,7 @@ on_line tests old new number rest text after all on cut few goes = go (line_read
   notes : List Note
   notes = on.notes
 
-  go : (r : Result (List Note) ℕ) → line_read notes text ≡ r → Goes (Ok tt) r new → ReadsOn new (number + 1) (lines_of after) all
+  go : (r : Result (List Note) ScoreFaultKind) → line_read notes text ≡ r → Goes (Ok tt) r new → ReadsOn new (number + 1) (lines_of after) all
   go (Err kind) is so = absurd so
   go (Ok more) is so = record {
     notes = more;
@@ -59,9 +61,9 @@ on_line tests old new number rest text after all on cut few goes = go (line_read
   }
 
 -- a line is at fault
-pub on_fault : (old new : Reader) (number kind : ℕ) (rest text after : List ℕ) (all : List (List ℕ)) → ReadsOn old number (lines_of rest) all
+pub on_fault : (old new : Reader) (number : ℕ) (kind : ScoreFaultKind) (rest text after : List ℕ) (all : List (List ℕ)) → ReadsOn old number (lines_of rest) all
     → lines_of rest ≡ text ∷ lines_of after → ((notes : List Note) → Keeps old notes → Goes (Err (Kind kind)) (line_read notes text) new)
-    → lines_read 1 [] all ≡ Err (record { line = number; kind = kind })
+    → lines_read 1 [] all ≡ Err (record { line = number; kind = kind_number kind })
 on_fault old new number kind rest text after all on cut goes =
     sym on.read ∙ ap (λ (l : List (List ℕ)). lines_read number on.notes l) cut
     ∙ read_err number on.notes kind text (lines_of after) (goes on.notes on.kept)

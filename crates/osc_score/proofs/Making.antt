@@ -11,6 +11,7 @@ use Rattle.osc_message.specs.Messages.{message_text}
 use Rattle.osc_packet.specs.Packets.{elements_text, bundle_word}
 use Rattle.osc_packet.specs.Bundling.{Bundling, with_message, sized, bundled}
 use Rattle.osc_score.specs.declared.run.Run.{Run}
+use Rattle.osc_score.specs.declared.fault.ScoreFaultKind.{ScoreFaultKind}
 use Rattle.osc_script.specs.declared.fault.LineRefusal.{LineRefusal}
 use Rattle.osc_script.specs.declared.fault.LineRefusal.TheVariants.{Kind, NoMemory}
 use Rattle.osc_score.specs.Scores.{Note, Group, alone, message_of, elements_of, bundle_text}
@@ -57,7 +58,7 @@ last_kept least runs new making groups keeps added =
     ∙ ap (λ (l : List Group). map run_of l) (sym keeps.parts)
 
 -- the note ends this run, which is in the making after others
-ended : (groups done : List Group) (group : Group) (note : Note) (runs : List Run) (making : Bundling) (result : Result Bundling LineRefusal)
+ended : (groups done : List Group) (group : Group) (note : Note) (runs : List Run) (making : Bundling) (result : Result Bundling (LineRefusal ScoreFaultKind))
     → run_with groups note ≡ group → extended groups note ≡ done ++ group ∷ [] → runs ≡ map run_of done → making ≡ making_of group → group.tag ≡ note.tag
     → Pushes result making (length (bundled making)) → PushesNote result groups (extended groups note) note runs
 ended groups done group note runs making result is more kept made tag_is pushes = go result pushes where
@@ -65,7 +66,7 @@ ended groups done group note runs making result is more kept made tag_is pushes 
   size = ap (λ (b : Bundling). length (bundled b)) made ∙ ap (λ (l : List ℕ). length l) (making_text group)
       ∙ ap (λ (g : Group). length (bundle_text g)) (sym is)
 
-  go : (r : Result Bundling LineRefusal) → Pushes r making (length (bundled making)) → PushesNote r groups (extended groups note) note runs
+  go : (r : Result Bundling (LineRefusal ScoreFaultKind)) → Pushes r making (length (bundled making)) → PushesNote r groups (extended groups note) note runs
   go (Ok new) so = (
     subst (λ (n : ℕ). n ≤ MAX_PACKET) size so.1,
     record { done = done; last = group; parts = more; kept = kept; making_is = so.0 ∙ made; tag_is = tag_is },
@@ -76,7 +77,7 @@ ended groups done group note runs making result is more kept made tag_is pushes 
 -- a message is pushed to the last run
 
 pub same_pushed : (least own : ℕ) (runs : List Run) (making : Bundling) (groups : List Group) (note : Note) (bytes : List ℕ)
-    (result : Result Bundling LineRefusal)
+    (result : Result Bundling (LineRefusal ScoreFaultKind))
     → KeepsLast least runs making groups → note.tag ≡ own → own ≡ least → bytes ≡ message_text (message_of note)
     → Pushes result (with_message making bytes) (length (bundled (with_message making bytes))) → PushesNote result groups (extended groups note) note runs
 same_pushed least own runs making groups note bytes result keeps tag_is least_is is pushes =
@@ -98,7 +99,7 @@ same_pushed least own runs making groups note bytes result keeps tag_is least_is
 
 -- a run begins with it
 
-begins : (groups : List Group) (note : Note) (runs : List Run) (own : ℕ) (bytes : List ℕ) (result : Result Bundling LineRefusal)
+begins : (groups : List Group) (note : Note) (runs : List Run) (own : ℕ) (bytes : List ℕ) (result : Result Bundling (LineRefusal ScoreFaultKind))
     → run_with groups note ≡ alone note
     → extended groups note ≡ groups ++ alone note ∷ [] → runs ≡ map run_of groups → note.tag ≡ own → bytes ≡ message_text (message_of note)
     → Pushes result (record { tag = own; messages = bytes ∷ [] }) (length (bundled (record { tag = own; messages = bytes ∷ [] })))
@@ -109,7 +110,8 @@ begins groups note runs own bytes result is more kept tag_is text_is pushes =
     ∙ ap (λ (l : List ℕ). let b : Bundling = record { tag = note.tag; messages = l ∷ [] } in b) text_is)
     refl pushes
 
-pub first_begun : (groups : List Group) (note : Note) (runs : List Run) (own : ℕ) (bytes : List ℕ) (result : Result Bundling LineRefusal) → groups ≡ []
+pub first_begun : (groups : List Group) (note : Note) (runs : List Run) (own : ℕ) (bytes : List ℕ)
+    (result : Result Bundling (LineRefusal ScoreFaultKind)) → groups ≡ []
     → runs ≡ []
     → note.tag ≡ own → bytes ≡ message_text (message_of note)
     → Pushes result (record { tag = own; messages = bytes ∷ [] }) (length (bundled (record { tag = own; messages = bytes ∷ [] })))
@@ -120,7 +122,7 @@ first_begun groups note runs own bytes result none empty tag_is text_is pushes =
     (empty ∙ ap (λ (l : List Group). map run_of l) (sym none)) tag_is text_is pushes
 
 pub next_begun : (least own : ℕ) (runs new : List Run) (making : Bundling) (groups : List Group) (note : Note) (bytes : List ℕ)
-    (result : Result Bundling LineRefusal)
+    (result : Result Bundling (LineRefusal ScoreFaultKind))
     → KeepsLast least runs making groups → new ≡ runs ++ record { tag = least; bundle = bundled making } ∷ [] → note.tag ≡ own → own ≢ least
     → bytes ≡ message_text (message_of note)
     → Pushes result (record { tag = own; messages = bytes ∷ [] }) (length (bundled (record { tag = own; messages = bytes ∷ [] })))

@@ -13,7 +13,8 @@ use Rattle.osc_message.proofs.LawfulPatterns.{pattern_nonzero}
 use Rattle.osc_message.proofs.MessageLaws.{nonzero_tags}
 use Rattle.osc_script.specs.Words.{words_of}
 use Rattle.osc_script.specs.Acts.{and_then}
-use Rattle.osc_score.specs.Kinds.{arg_kind, brackets_kind}
+use Rattle.osc_score.specs.declared.fault.ScoreFaultKind.{ScoreFaultKind}
+use Rattle.osc_score.specs.declared.fault.ScoreFaultKind.TheVariants as kinds
 use Rattle.osc_score.specs.ArgumentWords.{arguments_read}
 use Rattle.osc_score.specs.Scores.{Note}
 use Rattle.osc_score.specs.Reading.{are_balanced, balanced_note}
@@ -73,36 +74,37 @@ balance_is tags arguments t tags_are is =
     ∙ ap (λ (l : List ℕ). is_ok (brackets_read 0 0 l 0)) (sym tags_are) ∙ is
 
 pub unbalanced : (tag : ℕ) (address tags atoms : List ℕ) (read : Option (List Argument)) → arguments_onto (44 ∷ []) [] read ≡ Some (tags, atoms)
-    → is_ok (brackets_read 0 0 tags 0) ≡ false → and_then (ok_or read arg_kind) (balanced_note tag address) ≡ Err brackets_kind
+    → is_ok (brackets_read 0 0 tags 0) ≡ false → and_then (ok_or read kinds.Arg) (balanced_note tag address) ≡ Err kinds.Brackets
 unbalanced tag address tags atoms read is test =
     let put : ArePut tags atoms read = put_in tags atoms read is in
     let arguments : List Argument = put.arguments in
-    ap (λ (o : Option (List Argument)). and_then (ok_or o arg_kind) (balanced_note tag address)) put.is
-    ∙ ap (λ (t : Bool). cond {A = Result Note ℕ} t (Ok (record { tag = tag; address = address; arguments = arguments })) (Err brackets_kind))
+    ap (λ (o : Option (List Argument)). and_then (ok_or o kinds.Arg) (balanced_note tag address)) put.is
+    ∙ ap (λ (t : Bool). cond {A = Result Note ScoreFaultKind} t (Ok (record { tag = tag; address = address; arguments = arguments })) (Err kinds.Brackets))
     (balance_is tags arguments false put.tags_are test)
 
 -- they balance
 
 pub told : (tag : ℕ) (address tags atoms message : List ℕ) (read : Option (List Argument)) → arguments_onto (44 ∷ []) [] read ≡ Some (tags, atoms)
     → is_ok (brackets_read 0 0 tags 0) ≡ true → message ≡ string address ++ (string tags ++ atoms)
-    → IsReadAs tag address message (and_then (ok_or read arg_kind) (balanced_note tag address))
+    → IsReadAs tag address message (and_then (ok_or read kinds.Arg) (balanced_note tag address))
 told tag address tags atoms message read is test text =
     let put : ArePut tags atoms read = put_in tags atoms read is in
     let arguments : List Argument = put.arguments in
     record {
       arguments = arguments;
-      is = ap (λ (o : Option (List Argument)). and_then (ok_or o arg_kind) (balanced_note tag address)) put.is
-          ∙ ap (λ (t : Bool). cond {A = Result Note ℕ} t (Ok (record { tag = tag; address = address; arguments = arguments })) (Err brackets_kind))
+      is = ap (λ (o : Option (List Argument)). and_then (ok_or o kinds.Arg) (balanced_note tag address)) put.is
+          ∙ ap (λ (t : Bool). cond {A = Result Note ScoreFaultKind} t (Ok (record { tag = tag; address = address; arguments = arguments }))
+          (Err kinds.Brackets))
           (balance_is tags arguments true put.tags_are test);
       text = text ∙ text_is address tags atoms read put;
     }
 
 -- some word is no argument
-pub no_argument : (tag : ℕ) (address : List ℕ) (read : Option (List Argument)) (kind : ℕ) → read ≡ None → kind ≡ arg_kind
-    → and_then (ok_or read arg_kind) (balanced_note tag address) ≡ Err kind
+pub no_argument : (tag : ℕ) (address : List ℕ) (read : Option (List Argument)) (kind : ScoreFaultKind) → read ≡ None → kind ≡ kinds.Arg
+    → and_then (ok_or read kinds.Arg) (balanced_note tag address) ≡ Err kind
 no_argument tag address read kind none is =
-    ap (λ (o : Option (List Argument)). and_then (ok_or o arg_kind) (balanced_note tag address)) none
-    ∙ ap (λ (k : ℕ). let r : Result Note ℕ = Err k in r) (sym is)
+    ap (λ (o : Option (List Argument)). and_then (ok_or o kinds.Arg) (balanced_note tag address)) none
+    ∙ ap (λ (k : ScoreFaultKind). let r : Result Note ScoreFaultKind = Err k in r) (sym is)
 
 -- it is a message
 

@@ -9,9 +9,10 @@ use Rattle.osc_tree.specs.Registry.{Registry, IsLawful, IsNewId}
 use Rattle.osc_tree.specs.Adding.{Refusal, taken, under_method, is_container, methods_full, nodes_full, add_refusal}
 use Rattle.osc_score.specs.declared.run.Run.{Run}
 use Rattle.osc_score.specs.declared.reader.Reader.{Reader}
+use Rattle.osc_score.specs.declared.fault.ScoreFaultKind.{ScoreFaultKind}
+use Rattle.osc_score.specs.declared.fault.ScoreFaultKind.TheVariants as kinds
 use Rattle.osc_script.specs.declared.fault.LineRefusal.{LineRefusal}
 use Rattle.osc_script.specs.declared.fault.LineRefusal.TheVariants.{Kind, NoMemory}
-use Rattle.osc_score.specs.Kinds.{bundle_kind}
 use Rattle.osc_score.specs.Scores.{Note, Group, groups_of, bundle_text, addresses_of, methods_from, tree_of}
 use Rattle.osc_score.specs.Reading.{run_with, extended, unless_refused, note_added}
 use Rattle.osc_score.specs.Keeping.{KeepsLast, KeepsRuns, PushesNote, Registers, Keeps, IsReading, Goes}
@@ -44,14 +45,15 @@ few_addresses reader is =
 
 -- a bundle is too long
 
-pub too_long : (notes : List Note) (note : Note) (reader : Reader) (kind : ℕ) → kind ≡ bundle_kind
+pub too_long : (notes : List Note) (note : Note) (reader : Reader) (kind : ScoreFaultKind) → kind ≡ kinds.Bundle
     → MAX_PACKET < length (bundle_text (run_with (groups_of notes) note)) → note_added notes note ≡ Err kind
 too_long notes note reader kind is long =
-    ap (λ (t : Bool). cond {A = Result (List Note) ℕ} t (Err bundle_kind) (unless_refused (add_refusal (tree_of notes) note.address) (notes ++ note ∷ [])))
+    ap (λ (t : Bool). cond {A = Result (List Note) ScoreFaultKind} t (Err kinds.Bundle)
+    (unless_refused (add_refusal (tree_of notes) note.address) (notes ++ note ∷ [])))
     (less MAX_PACKET (length (bundle_text (run_with (groups_of notes) note))) long)
-    ∙ ap (λ (k : ℕ). Err k) (sym is)
+    ∙ ap (λ (k : ScoreFaultKind). Err k) (sym is)
 
-pub refused_goes : (notes : List Note) (note : Note) (reader : Reader) (more : List Group) (runs : List Run) (refusal : LineRefusal)
+pub refused_goes : (notes : List Note) (note : Note) (reader : Reader) (more : List Group) (runs : List Run) (refusal : LineRefusal ScoreFaultKind)
     → PushesNote (Err refusal) (groups_of notes) more note runs → Goes (Err refusal) (note_added notes note) reader
 refused_goes notes note reader more runs (Kind kind) pushes = too_long notes note reader kind pushes.0 pushes.1
 refused_goes notes note reader more runs NoMemory pushes = tt
@@ -63,14 +65,15 @@ runs_kept reader notes last keeps is = subst (λ (o : Option Bundling). KeepsRun
 
 -- what is kept of the old notes and the note, where the address is registered or there already
 
-pub note_kept : (notes : List Note) (note : Note) (old new : Reader) (own : ℕ) (address : List ℕ) (making : Bundling) (result : Result (Unit {0}) LineRefusal)
+pub note_kept : (notes : List Note) (note : Note) (old new : Reader) (own : ℕ) (address : List ℕ) (making : Bundling)
+    (result : Result (Unit {0}) (LineRefusal ScoreFaultKind))
     → IsReading old → Keeps old notes
     → note.tag ≡ own → note.address ≡ address → PushesNote (Ok making) (groups_of notes) (extended (groups_of notes) note) note new.runs.items
     → new.last ≡ Some making → new.least ≡ own
     → Registers result (add_refusal old.tree address) old.tree new.tree old.addresses.items new.addresses.items address
     → Goes result (note_added notes note) new
 note_kept notes note old new own address making result reading keeps tag_is address_is pushes last_is least_is registers =
-    subst (λ (r : Result (List Note) ℕ). Goes result r new) (sym decided)
+    subst (λ (r : Result (List Note) ScoreFaultKind). Goes result r new) (sym decided)
     (go result (add_refusal (tree_of notes) note.address) refl
     (subst (λ (t : Registry). Registers result (add_refusal t note.address) t new.tree old.addresses.items new.addresses.items note.address) keeps.tree
     (subst (λ (a : List ℕ). Registers result (add_refusal old.tree a) old.tree new.tree old.addresses.items new.addresses.items a)
@@ -80,7 +83,7 @@ note_kept notes note old new own address making result reading keeps tag_is addr
 
       decided : note_added notes note ≡ unless_refused (add_refusal (tree_of notes) note.address) (notes ++ note ∷ [])
       decided =
-          ap (λ (t : Bool). cond {A = Result (List Note) ℕ} t (Err bundle_kind) (unless_refused (add_refusal (tree_of notes) note.address)
+          ap (λ (t : Bool). cond {A = Result (List Note) ScoreFaultKind} t (Err kinds.Bundle) (unless_refused (add_refusal (tree_of notes) note.address)
           (notes ++ note ∷ [])))
           (not_less MAX_PACKET (length (bundle_text (run_with (groups_of notes) note))) pushes.0)
 
@@ -101,7 +104,7 @@ note_kept notes note old new own address making result reading keeps tag_is addr
         runs = runs;
       }
 
-      go : (r : Result (Unit {0}) LineRefusal) → (o : Option Refusal) → add_refusal (tree_of notes) note.address ≡ o
+      go : (r : Result (Unit {0}) (LineRefusal ScoreFaultKind)) → (o : Option Refusal) → add_refusal (tree_of notes) note.address ≡ o
           → Registers r o (tree_of notes) new.tree old.addresses.items new.addresses.items note.address → Goes r (unless_refused o (notes ++ note ∷ [])) new
       go (Ok done) None is so =
           let more : addresses_of (notes ++ note ∷ []) ≡ addresses_of notes ++ note.address ∷ [] = uses_more notes note lawful is in

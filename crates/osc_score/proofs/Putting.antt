@@ -6,6 +6,7 @@ use Rattle.osc_message.specs.Messages.{Argument, tag_of, atom_of}
 use Rattle.osc_script.specs.Words.{words_of}
 use Rattle.osc_script.specs.declared.fault.LineRefusal.{LineRefusal}
 use Rattle.osc_script.specs.declared.fault.LineRefusal.TheVariants.{Kind, NoMemory}
+use Rattle.osc_score.specs.declared.fault.ScoreFaultKind.{ScoreFaultKind}
 use Rattle.osc_score.specs.ArgumentWords.{argument_read, arguments_read}
 use Rattle.osc_score.specs.Argued.{Argues, arguments_onto, ArguesAll}
 use Rattle.osc_score.proofs.Arguments.{spaced_size}
@@ -46,7 +47,7 @@ onto_none tags atoms None is = refl
 onto_none tags atoms (Some arguments) is = absurd (cc)
 
 -- a word that is no argument
-pub word_refused : (words text word after old_tags old_atoms tags atoms new_tags new_atoms last_tags last_atoms : List ℕ) (refusal : LineRefusal)
+pub word_refused : (words text word after old_tags old_atoms tags atoms new_tags new_atoms last_tags last_atoms : List ℕ) (refusal : LineRefusal ScoreFaultKind)
     → arguments_onto tags atoms (arguments_read (words_of text)) ≡ arguments_onto old_tags old_atoms (arguments_read (words_of words))
     → words_of text ≡ word ∷ words_of after → Argues (Err refusal) (argument_read word) tags atoms new_tags new_atoms
     → ArguesAll (Err refusal) (arguments_read (words_of words)) old_tags old_atoms last_tags last_atoms

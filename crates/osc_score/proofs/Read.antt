@@ -16,7 +16,9 @@ use Rattle.osc_tree.specs.Adding.{Refusal, taken, under_method, is_container, me
 use Rattle.osc_script.specs.Words.{words_of, lines_of}
 use Rattle.osc_script.specs.Acts.{and_then}
 use Rattle.osc_score.specs.declared.fault.ScoreFault.{ScoreFault}
-use Rattle.osc_score.specs.Kinds.{too_long_kind, tag_kind, order_kind, address_kind, arg_kind, brackets_kind, bundle_kind}
+use Rattle.osc_score.specs.declared.fault.ScoreFaultKind.{ScoreFaultKind}
+use Rattle.osc_score.specs.declared.fault.ScoreFaultKind.TheVariants as kinds
+use Rattle.osc_score.specs.Kinds.{kind_number}
 use Rattle.osc_score.specs.Scores.{Note, groups_of, bundle_text, IsShort, tree_of, IsNote, IsOrdered, IsScore, note_size, score_size}
 use Rattle.osc_score.specs.ArgumentWords.{tag_read, arguments_read}
 use Rattle.osc_score.specs.Reading.{are_balanced, balanced_note, note_at, note_read, least_of, run_with, unless_refused, note_added, words_read, line_read}
@@ -37,11 +39,12 @@ pub record IsGood (notes : List Note) : Type 0 where
   pub short : AllByRecursion IsShort (groups_of notes)
   pub tree : IsLawful (tree_of notes)
 
-step_ok : {X Y : Type 0} (read : Result X ℕ) (next : X → Result Y ℕ) (value : Y) → and_then read next ≡ Ok value → (x : X) × (read ≡ Ok x) × (next x ≡ Ok value)
+step_ok : {X Y K : Type 0} (read : Result X K) (next : X → Result Y K) (value : Y) → and_then read next ≡ Ok value
+    → (x : X) × (read ≡ Ok x) × (next x ≡ Ok value)
 step_ok (Ok x) next value is = (x, refl, is)
 step_ok (Err kind) next value is = absurd (cc)
 
-some_ok : {X : Type 0} (o : Option X) (kind : ℕ) (x : X) → ok_or {E = ℕ} o kind ≡ Ok x → o ≡ Some x
+some_ok : {X : Type 0} (o : Option X) (kind : ScoreFaultKind) (x : X) → ok_or {E = ScoreFaultKind} o kind ≡ Ok x → o ≡ Some x
 some_ok None kind x is = absurd (cc)
 some_ok (Some y) kind x is = let same : y ≡ x = cc in ap Some same
 
@@ -64,7 +67,7 @@ balanced_is : (tag : ℕ) (address : List ℕ) (arguments : List Argument) (note
     → (note ≡ record { tag = tag; address = address; arguments = arguments }) × Balanced (map tag_of arguments)
 balanced_is tag address arguments note is = go (are_balanced arguments) refl is where
   go : (t : Bool) → are_balanced arguments ≡ t
-      → cond {A = Result Note ℕ} t (Ok (record { tag = tag; address = address; arguments = arguments })) (Err brackets_kind) ≡ Ok note
+      → cond {A = Result Note ScoreFaultKind} t (Ok (record { tag = tag; address = address; arguments = arguments })) (Err kinds.Brackets) ≡ Ok note
       → (note ≡ record { tag = tag; address = address; arguments = arguments }) × Balanced (map tag_of arguments)
   go true e so =
       let this : Note = record { tag = tag; address = address; arguments = arguments } in
@@ -75,16 +78,16 @@ at_noted : TestsAddresses → (least tag : ℕ) (address : List ℕ) (words : Li
     → note_at least tag address words ≡ Ok note → IsNoted least (length address + spaced_size words) note
 at_noted tests least tag address words note small few is = go (nat_lt tag least) refl (is_address address) refl is where
   go : (t : Bool) → nat_lt tag least ≡ t → (u : Bool) → is_address address ≡ u
-      → cond {A = Result Note ℕ} t (Err order_kind)
-      (cond {A = Result Note ℕ} u (and_then (ok_or (arguments_read words) arg_kind) (balanced_note tag address)) (Err address_kind)) ≡ Ok note
+      → cond {A = Result Note ScoreFaultKind} t (Err kinds.Order)
+      (cond {A = Result Note ScoreFaultKind} u (and_then (ok_or (arguments_read words) kinds.Arg) (balanced_note tag address)) (Err kinds.Address)) ≡ Ok note
       → IsNoted least (length address + spaced_size words) note
   go true early u e so = absurd (cc)
   go false early false e so = absurd (cc)
   go false early true e so =
-      let got = step_ok (ok_or (arguments_read words) arg_kind) (balanced_note tag address) note so in
+      let got = step_ok (ok_or (arguments_read words) kinds.Arg) (balanced_note tag address) note so in
       let arguments : List Argument = got.0 in
       let said : AreSaid (spaced_size words) arguments =
-      subst (λ (o : Option (List Argument)). IfSome o (AreSaid (spaced_size words))) (some_ok (arguments_read words) arg_kind arguments got.1)
+      subst (λ (o : Option (List Argument)). IfSome o (AreSaid (spaced_size words))) (some_ok (arguments_read words) kinds.Arg arguments got.1)
       (arguments_said words few) in
       let made = balanced_is tag address arguments note got.2 in
       let least_is : least ≤ tag = ltb-false _ _ early in
@@ -99,9 +102,9 @@ at_noted tests least tag address words note small few is = go (nat_lt tag least)
 read_noted : TestsAddresses → (least : ℕ) (moment address : List ℕ) (words : List (List ℕ)) (note : Note) → spaced_size words < 2 ^ 31
     → note_read least moment address words ≡ Ok note → IsNoted least (length address + spaced_size words) note × (length moment ≡ 16)
 read_noted tests least moment address words note few is =
-    let got = step_ok (ok_or (tag_read moment) tag_kind) (λ tag. note_at least tag address words) note is in
+    let got = step_ok (ok_or (tag_read moment) kinds.Tag) (λ tag. note_at least tag address words) note is in
     let small : IsWord (length moment) 64 got.0 =
-    subst (λ (o : Option ℕ). IfSome o (IsWord (length moment) 64)) (some_ok (tag_read moment) tag_kind got.0 got.1) (tag_small moment) in
+    subst (λ (o : Option ℕ). IfSome o (IsWord (length moment) 64)) (some_ok (tag_read moment) kinds.Tag got.0 got.1) (tag_small moment) in
     let long = small.long in
     (at_noted tests least got.0 address words note small.small few got.2, omega arith)
 
@@ -122,11 +125,12 @@ added_good notes note size more good lawful later few is = go (nat_lt MAX_PACKET
   after = notes ++ note ∷ []
 
   go : (t : Bool) → nat_lt MAX_PACKET (length (bundle_text (run_with (groups_of notes) note))) ≡ t
-      → cond {A = Result (List Note) ℕ} t (Err bundle_kind) (unless_refused (add_refusal (tree_of notes) note.address) (notes ++ note ∷ [])) ≡ Ok more
+      → cond {A = Result (List Note) ScoreFaultKind} t (Err kinds.Bundle)
+      (unless_refused (add_refusal (tree_of notes) note.address) (notes ++ note ∷ [])) ≡ Ok more
       → IsMore notes size more
   go true e so = absurd (cc)
   go false e so = case (add_refusal (tree_of notes) note.address) refl so where
-    done : IsLawful (tree_of (notes ++ note ∷ [])) → ◌≡◌ {A = Result (List Note) ℕ} (Ok (notes ++ note ∷ [])) (Ok more) → IsMore notes size more
+    done : IsLawful (tree_of (notes ++ note ∷ [])) → ◌≡◌ {A = Result (List Note) ScoreFaultKind} (Ok (notes ++ note ∷ [])) (Ok more) → IsMore notes size more
     done tree same =
         let is_more : notes ++ note ∷ [] ≡ more = cc in
         let fits : length (bundle_text (run_with (groups_of notes) note)) ≤ MAX_PACKET = ltb-false _ _ e in
@@ -148,7 +152,8 @@ added_good notes note size more good lawful later few is = go (nat_lt MAX_PACKET
     case (Some (methods_full limit)) is same = absurd (cc)
     case (Some (nodes_full need free)) is same = absurd (cc)
 
-same_more : (notes : List Note) (size : ℕ) (more : List Note) → IsGood notes → ◌≡◌ {A = Result (List Note) ℕ} (Ok notes) (Ok more) → IsMore notes size more
+same_more : (notes : List Note) (size : ℕ) (more : List Note) → IsGood notes
+    → ◌≡◌ {A = Result (List Note) ScoreFaultKind} (Ok notes) (Ok more) → IsMore notes size more
 same_more notes size more good is =
     let same : notes ≡ more = cc in subst (IsMore notes size) same (record { good = good; short = omega arith })
 
@@ -168,7 +173,7 @@ words_good tests notes (moment ∷ address ∷ words) size more good fits few is
 pub line_good : TestsAddresses → (notes : List Note) (text : List ℕ) (more : List Note) → IsGood notes → length text < 2 ^ 31
     → line_read notes text ≡ Ok more → IsMore notes (length text) more
 line_good tests notes text more good few is = go (starts_with nat_eq text (codes "#")) is where
-  go : (t : Bool) → cond {A = Result (List Note) ℕ} t (Ok notes) (words_read notes (words_of text)) ≡ Ok more → IsMore notes (length text) more
+  go : (t : Bool) → cond {A = Result (List Note) ScoreFaultKind} t (Ok notes) (words_read notes (words_of text)) ≡ Ok more → IsMore notes (length text) more
   go true so = same_more notes (length text) more good so
   go false so = words_good tests notes (words_of text) (length text) more good (words_short text) few so
 
@@ -183,11 +188,11 @@ lines_good tests number notes (text ∷ texts) good few =
       on size rest more one (Ok last) two =
           let first = one.short in let second = two.short in record { good = two.good; short = omega arith }
 
-      go : (r : Result (List Note) ℕ) → line_read notes text ≡ r
+      go : (r : Result (List Note) ScoreFaultKind) → line_read notes text ≡ r
           → ((more : List Note) → IsGood more → IfOk (lines_read (number + 1) more texts) (IsMore more (lines_size texts)))
           → IfOk (elim r as (λ x. Result (List Note) ScoreFault) [
             | Ok more ↦ lines_read (number + 1) more texts
-            | Err kind ↦ Err (record { line = number; kind = kind })
+            | Err kind ↦ Err (record { line = number; kind = kind_number kind })
           ]) (IsMore notes (length text + lines_size texts))
       go (Err kind) is later = tt
       go (Ok more) is later =
@@ -211,7 +216,7 @@ score_good tests empty bytes = go (nat_lt MAX_SCORE (length bytes)) refl where
   each (Ok notes) more within = last (lines_size (lines_of bytes)) notes more (lines_short bytes) within
 
   go : (t : Bool) → nat_lt MAX_SCORE (length bytes) ≡ t
-      → IfOk (cond {A = Result (List Note) ScoreFault} t (Err (record { line = 0; kind = too_long_kind })) (lines_read 1 [] (lines_of bytes)))
+      → IfOk (cond {A = Result (List Note) ScoreFault} t (Err (record { line = 0; kind = kind_number kinds.TooLong })) (lines_read 1 [] (lines_of bytes)))
       (IsScored (length bytes))
   go true e = tt
   go false e =

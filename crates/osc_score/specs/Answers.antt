@@ -2,8 +2,10 @@
 use Rattle.std.specs.Prelude.{◌≡◌, ℕ, ◌+◌, List, [], ◌∷◌, ◌++◌, length, Result, Ok, Err}
 use Rattle.osc_script.specs.Words.{lines_of}
 use Rattle.osc_score.specs.declared.fault.ScoreFault.{ScoreFault}
+use Rattle.osc_score.specs.declared.fault.ScoreFaultKind.{ScoreFaultKind}
 use Rattle.osc_score.specs.declared.fault.ScoreRefusal.{ScoreRefusal}
 use Rattle.osc_score.specs.declared.fault.ScoreRefusal.TheVariants.{Fault, NoMemory}
+use Rattle.osc_score.specs.Kinds.{kind_number}
 use Rattle.osc_score.specs.Scores.{Note}
 use Rattle.osc_score.specs.Reading.{line_read, lines_read}
 use Rattle.osc_score.specs.Plans.{Plan, plan_of}
@@ -23,4 +25,6 @@ pub record IsFirstFault (bytes : List ℕ) (fault : ScoreFault) : Type 0 where
   pub number : fault.line ≡ length before + 1
   pub notes : List Note
   pub lawful : lines_read 1 [] before ≡ Ok notes
-  pub kind : line_read notes text ≡ Err fault.kind
+  pub kind : ScoreFaultKind
+  pub said : line_read notes text ≡ Err kind
+  pub numbered : fault.kind ≡ kind_number kind

@@ -9,12 +9,13 @@ use Rattle.osc_tree.specs.Adding.{Refusal, taken}
 use Rattle.osc_score.specs.declared.run.Run.{Run}
 use Rattle.osc_score.specs.declared.reader.Reader.{Reader}
 use Rattle.osc_score.specs.declared.fault.ScoreFault.{ScoreFault}
+use Rattle.osc_score.specs.declared.fault.ScoreFaultKind.{ScoreFaultKind}
+use Rattle.osc_score.specs.declared.fault.ScoreFaultKind.TheVariants as kinds
 use Rattle.osc_score.specs.declared.fault.ScoreRefusal.{ScoreRefusal}
 use Rattle.osc_score.specs.declared.fault.ScoreRefusal.TheVariants.{Fault}
 use Rattle.osc_score.specs.declared.fault.ScoreRefusal.TheVariants.{NoMemory as NoScoreMemory}
 use Rattle.osc_script.specs.declared.fault.LineRefusal.{LineRefusal}
 use Rattle.osc_script.specs.declared.fault.LineRefusal.TheVariants.{Kind, NoMemory}
-use Rattle.osc_score.specs.Kinds.{bundle_kind}
 use Rattle.osc_score.specs.Scores.{Note, Group, groups_of, message_of, bundle_text, addresses_of}
 use Rattle.osc_score.specs.Scores.{tree_of}
 use Rattle.osc_score.specs.Plans.{run_of}
@@ -48,23 +49,23 @@ abbrev pub KeepsNext : List Run → Bundling → List Group → Note → Type 0
 KeepsNext runs making groups note = KeepsLast note.tag runs making groups
 
 -- what is answered to a message that is pushed to the run with it
-abbrev pub Pushes : Result Bundling LineRefusal → Bundling → ℕ → Type 0
+abbrev pub Pushes : Result Bundling (LineRefusal ScoreFaultKind) → Bundling → ℕ → Type 0
 Pushes (Ok new) making size = (new ≡ making) × (size ≤ MAX_PACKET)
-Pushes (Err (Kind kind)) making size = (kind ≡ bundle_kind) × (MAX_PACKET < size)
+Pushes (Err (Kind kind)) making size = (kind ≡ kinds.Bundle) × (MAX_PACKET < size)
 Pushes (Err NoMemory) making size = Unit {0}
 
 -- the runs with the note, whose bundle isn't too long; or it is
-abbrev pub PushesNote : Result Bundling LineRefusal → List Group → List Group → Note → List Run
-    → Type 0
+abbrev pub PushesNote : Result Bundling (LineRefusal ScoreFaultKind) → List Group → List Group
+    → Note → List Run → Type 0
 PushesNote (Ok making) groups more note runs =
     (length (bundle_text (run_with groups note)) ≤ MAX_PACKET) × KeepsLast note.tag runs making more
 PushesNote (Err (Kind kind)) groups more note runs =
-    (kind ≡ bundle_kind) × (MAX_PACKET < length (bundle_text (run_with groups note)))
+    (kind ≡ kinds.Bundle) × (MAX_PACKET < length (bundle_text (run_with groups note)))
 PushesNote (Err NoMemory) groups more note runs = Unit {0}
 
 -- an address is registered, is there already, or is refused
-abbrev pub Registers : Result (Unit {0}) LineRefusal → Option Refusal → Registry → Registry
-    → List (List ℕ) → List (List ℕ) → List ℕ → Type 0
+abbrev pub Registers : Result (Unit {0}) (LineRefusal ScoreFaultKind) → Option Refusal → Registry
+    → Registry → List (List ℕ) → List (List ℕ) → List ℕ → Type 0
 Registers (Ok done) None old new before after address =
     (new
     ≡ record old {
@@ -91,7 +92,8 @@ pub record IsReading (reader : Reader) : Type 0 where
   pub lawful : IsLawful (tree_of notes)
 
 -- what a note or a line leaves of a reader, by what is read
-abbrev pub Goes : Result (Unit {0}) LineRefusal → Result (List Note) ℕ → Reader → Type 0
+abbrev pub Goes : Result (Unit {0}) (LineRefusal ScoreFaultKind)
+    → Result (List Note) ScoreFaultKind → Reader → Type 0
 Goes (Ok done) (Ok notes) reader = Keeps reader notes
 Goes (Ok done) (Err kind) reader = ⊥
 Goes (Err (Kind kind)) read reader = read ≡ Err kind

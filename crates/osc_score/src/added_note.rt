@@ -12,7 +12,7 @@ ghost use Rattle.osc_score.specs.Reading.{note_added, extended};
 ghost use Rattle.osc_score.specs.Keeping.{KeepsRuns, Pushes, PushesNote, Registers, Keeps};
 ghost use Rattle.osc_score.specs.Keeping.{IsReading, Goes};
 
-use crate::fault::ScoreFault;
+use crate::fault::ScoreFaultKind;
 use crate::reader::Reader;
 use crate::run::Run;
 use osc_message::Message;
@@ -23,20 +23,24 @@ use osc_tree::{Tree, TreeRefusal};
 use std::alloc::{AllocError, Global};
 
 /// The bundle with the message.
-fn pushed(bundler: Bundler, message: &Message<'_>) -> Result<Bundler, LineRefusal>
+fn pushed(bundler: Bundler, message: &Message<'_>) -> Result<Bundler, LineRefusal<ScoreFaultKind>>
     ensures { Pushes result (with_message bundler message.now)
         (length (bundled (with_message bundler message.now))) }
 {
     let mut bundler = bundler;
     match bundler.push(message) {
         Ok(()) => Ok(bundler),
-        Err(BundleFault::TooLong) => Err(LineRefusal::Kind(ScoreFault::BUNDLE)),
+        Err(BundleFault::TooLong) => Err(LineRefusal::Kind(ScoreFaultKind::Bundle)),
         Err(BundleFault::NoMemory) => Err(LineRefusal::NoMemory),
     }
 }
 
 /// A bundle with this tag, and the message alone.
-fn begun(alloc: Global, tag: u64, message: &Message<'_>) -> Result<Bundler, LineRefusal>
+fn begun(
+    alloc: Global,
+    tag: u64,
+    message: &Message<'_>,
+) -> Result<Bundler, LineRefusal<ScoreFaultKind>>
     ensures { Pushes result (record { tag = tag; messages = message.now ∷ [] })
         (length (bundled (record { tag = tag; messages = message.now ∷ [] }))) }
 {
@@ -49,7 +53,7 @@ fn register(
     tree: &mut Tree,
     addresses: &mut Vec<Address>,
     address: Address,
-) -> Result<(), LineRefusal>
+) -> Result<(), LineRefusal<ScoreFaultKind>>
     requires new { IsNewId tree.old.methods (length addresses.old.items) }
     requires few { length addresses.old.items < 2 ^ 32 }
     ensures { Registers result (add_refusal tree.old address) tree.old tree.new addresses.old.items
@@ -66,17 +70,17 @@ fn register(
 }
 
 /// The kind of a refusal, but that the address is there already.
-fn unless_taken(refusal: TreeRefusal) -> Result<(), LineRefusal>
+fn unless_taken(refusal: TreeRefusal) -> Result<(), LineRefusal<ScoreFaultKind>>
     ensures { (old new : Registry) (before after : List (List ℕ))
         (address : List ℕ) → new ≡ old → after ≡ before
         → Registers result (Some (refusal_of refusal)) old new before after address }
 {
     match refusal {
         TreeRefusal::Taken(_) => Ok(()),
-        TreeRefusal::UnderMethod(_) => Err(LineRefusal::Kind(ScoreFault::CLASH)),
-        TreeRefusal::IsContainer => Err(LineRefusal::Kind(ScoreFault::CLASH)),
-        TreeRefusal::MethodsFull(_) => Err(LineRefusal::Kind(ScoreFault::TREE_FULL)),
-        TreeRefusal::NodesFull(_) => Err(LineRefusal::Kind(ScoreFault::TREE_FULL)),
+        TreeRefusal::UnderMethod(_) => Err(LineRefusal::Kind(ScoreFaultKind::Clash)),
+        TreeRefusal::IsContainer => Err(LineRefusal::Kind(ScoreFaultKind::Clash)),
+        TreeRefusal::MethodsFull(_) => Err(LineRefusal::Kind(ScoreFaultKind::TreeFull)),
+        TreeRefusal::NodesFull(_) => Err(LineRefusal::Kind(ScoreFaultKind::TreeFull)),
     }
 }
 
@@ -119,7 +123,7 @@ fn push_message(
     least: u64,
     tag: u64,
     message: &Message<'_>,
-) -> Result<Bundler, LineRefusal>
+) -> Result<Bundler, LineRefusal<ScoreFaultKind>>
     ensures { (groups : List Group) (note : Note) → KeepsRuns least runs.old.items last groups
         → note.tag ≡ tag → message.now ≡ message_text (message_of note)
         → PushesNote result groups (extended groups note) note runs.new.items }
@@ -142,7 +146,7 @@ pub(crate) fn add_note(
     tag: u64,
     address: Address,
     message: &Message<'_>,
-) -> Result<(), LineRefusal>
+) -> Result<(), LineRefusal<ScoreFaultKind>>
     requires { IsReading reader.old }
     ensures { (notes : List Note) (note : Note) → Keeps reader.old notes → note.tag ≡ tag
         → note.address ≡ address → message.now ≡ message_text (message_of note)

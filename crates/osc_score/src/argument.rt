@@ -10,7 +10,7 @@ ghost use Rattle.osc_score.specs.ArgumentWords.{bare_read, number_read, value_re
 ghost use Rattle.osc_score.specs.ArgumentWords.{text_read};
 ghost use Rattle.osc_score.specs.Argued.{Argues, IsUnder};
 
-use crate::fault::ScoreFault;
+use crate::fault::ScoreFaultKind;
 use crate::number::{read_signed, read_tag, read_word};
 use crate::text::read_text;
 use hex::FromHexError;
@@ -24,19 +24,19 @@ pub(crate) fn put_word(
     word: &[u8],
     tags: &mut Vec<u8>,
     atoms: &mut Vec<u8>,
-) -> Result<(), LineRefusal>
+) -> Result<(), LineRefusal<ScoreFaultKind>>
     requires { length word.now ≤ MAX_SCORE }
     ensures { Argues result (argument_read word.now) tags.old.items atoms.old.items tags.new.items
         atoms.new.items }
 {
     match word {
-        [] => Err(LineRefusal::Kind(ScoreFault::ARG)),
+        [] => Err(LineRefusal::Kind(ScoreFaultKind::Arg)),
         [tag] => put_read(*tag, read_bare(*tag), tags, atoms),
         [tag, colon, value @ ..] => {
             if *colon == b':' {
                 put_value(alloc, *tag, value, tags, atoms)
             } else {
-                Err(LineRefusal::Kind(ScoreFault::ARG))
+                Err(LineRefusal::Kind(ScoreFaultKind::Arg))
             }
         }
     }
@@ -49,7 +49,7 @@ fn put_value(
     value: &[u8],
     tags: &mut Vec<u8>,
     atoms: &mut Vec<u8>,
-) -> Result<(), LineRefusal>
+) -> Result<(), LineRefusal<ScoreFaultKind>>
     requires { length value.now ≤ MAX_SCORE }
     ensures { Argues result (value_read tag value.now) tags.old.items atoms.old.items tags.new.items
         atoms.new.items }
@@ -68,7 +68,7 @@ fn put_blob(
     value: &[u8],
     tags: &mut Vec<u8>,
     atoms: &mut Vec<u8>,
-) -> Result<(), LineRefusal>
+) -> Result<(), LineRefusal<ScoreFaultKind>>
     requires { length value.now ≤ MAX_SCORE }
     ensures { Argues result (option_map content (result_ok (decode_of value.now))) tags.old.items
         atoms.old.items tags.new.items atoms.new.items }
@@ -76,7 +76,7 @@ fn put_blob(
     match hex::decode(alloc, value) {
         Ok(bytes) => put_argument(b'b', Arg::Blob(&bytes), tags, atoms),
         Err(FromHexError::OutOfMemory) => Err(LineRefusal::NoMemory),
-        Err(_) => Err(LineRefusal::Kind(ScoreFault::ARG)),
+        Err(_) => Err(LineRefusal::Kind(ScoreFaultKind::Arg)),
     }
 }
 
@@ -86,14 +86,14 @@ fn put_text(
     value: &[u8],
     tags: &mut Vec<u8>,
     atoms: &mut Vec<u8>,
-) -> Result<(), LineRefusal>
+) -> Result<(), LineRefusal<ScoreFaultKind>>
     requires { length value.now ≤ MAX_SCORE }
     ensures { Argues result (option_map text (text_read value.now)) tags.old.items
         atoms.old.items tags.new.items atoms.new.items }
 {
     match read_text(alloc, value)? {
         Some(bytes) => put_argument(b's', Arg::Str(&bytes), tags, atoms),
-        None => Err(LineRefusal::Kind(ScoreFault::ARG)),
+        None => Err(LineRefusal::Kind(ScoreFaultKind::Arg)),
     }
 }
 
@@ -103,14 +103,14 @@ fn put_symbol(
     value: &[u8],
     tags: &mut Vec<u8>,
     atoms: &mut Vec<u8>,
-) -> Result<(), LineRefusal>
+) -> Result<(), LineRefusal<ScoreFaultKind>>
     requires { length value.now ≤ MAX_SCORE }
     ensures { Argues result (option_map symbol (text_read value.now)) tags.old.items
         atoms.old.items tags.new.items atoms.new.items }
 {
     match read_text(alloc, value)? {
         Some(bytes) => put_argument(b'S', Arg::Symbol(&bytes), tags, atoms),
-        None => Err(LineRefusal::Kind(ScoreFault::ARG)),
+        None => Err(LineRefusal::Kind(ScoreFaultKind::Arg)),
     }
 }
 
@@ -154,14 +154,14 @@ fn put_read(
     read: Option<Arg<'_>>,
     tags: &mut Vec<u8>,
     atoms: &mut Vec<u8>,
-) -> Result<(), LineRefusal>
+) -> Result<(), LineRefusal<ScoreFaultKind>>
     requires { IfSome read (λ arg. IsUnder tag (shown arg)) }
     ensures { Argues result (option_map (λ arg. shown arg) read.entry) tags.old.items
         atoms.old.items tags.new.items atoms.new.items }
 {
     match read {
         Some(arg) => put_argument(tag, arg, tags, atoms),
-        None => Err(LineRefusal::Kind(ScoreFault::ARG)),
+        None => Err(LineRefusal::Kind(ScoreFaultKind::Arg)),
     }
 }
 
@@ -171,7 +171,7 @@ fn put_argument(
     arg: Arg<'_>,
     tags: &mut Vec<u8>,
     atoms: &mut Vec<u8>,
-) -> Result<(), LineRefusal>
+) -> Result<(), LineRefusal<ScoreFaultKind>>
     requires tag { tag ≡ tag_of (shown arg) }
     requires no_zero { HasNoZero (shown arg) }
     requires small { length (atom_of (shown arg)) ≤ MAX_BYTES }

@@ -1,7 +1,4 @@
 //! Why a score isn't read.
-ghost use Rattle.std.specs.Prelude.{◌≡◌};
-ghost use Rattle.osc_score.specs.declared.fault.ScoreRefusal.TheVariants.{NoMemory};
-
 use std::alloc::AllocError;
 use thiserror::Error;
 
@@ -12,31 +9,45 @@ use thiserror::Error;
 pub struct ScoreFault {
     /// The line, counted from 1, or 0 for the whole input.
     pub line: u32,
-    /// One of the numbers below.
+    /// The number of its kind.
     pub kind: u8,
 }
 
-impl ScoreFault {
+/// The kind of a fault.
+#[derive(Clone, Copy, Debug, PartialEq, Eq)]
+pub enum ScoreFaultKind {
     /// The input has over 1,048,576 bytes.
-    pub const TOO_LONG: u8 = 31;
+    TooLong = 31,
     /// Fewer than two words.
-    pub const COUNT: u8 = 32;
+    Count = 32,
     /// The first word isn't exactly 16 hexadecimal digits.
-    pub const TAG: u8 = 33;
+    Tag = 33,
     /// The tag is below 2, or below that of the line before.
-    pub const ORDER: u8 = 34;
+    Order = 34,
     /// The second word isn't a lawful address.
-    pub const ADDRESS: u8 = 35;
+    Address = 35,
     /// A word that is no argument.
-    pub const ARG: u8 = 36;
+    Arg = 36,
     /// The array brackets don't balance.
-    pub const BRACKETS: u8 = 37;
+    Brackets = 37,
     /// The bundle with this message would be over 65,504 bytes.
-    pub const BUNDLE: u8 = 38;
+    Bundle = 38,
     /// The address is a proper prefix of an earlier one, or the reverse.
-    pub const CLASH: u8 = 39;
+    Clash = 39,
     /// There are more than 1,024 distinct addresses, or they make more than 4,096 nodes.
-    pub const TREE_FULL: u8 = 40;
+    TreeFull = 40,
+}
+
+impl ScoreFaultKind {
+    ghost use Rattle.std.specs.Prelude.{◌≡◌};
+    ghost use Rattle.osc_score.specs.Kinds.{kind_number};
+
+    /// Its number, which a `ScoreFault` has.
+    pub fn number(self) -> u8
+        ensures { result ≡ kind_number self }
+    {
+        self as u8
+    }
 }
 
 /// Why a score isn't read.
@@ -47,6 +58,9 @@ pub enum ScoreRefusal {
 }
 
 impl From<AllocError> for ScoreRefusal {
+    ghost use Rattle.std.specs.Prelude.{◌≡◌};
+    ghost use Rattle.osc_score.specs.declared.fault.ScoreRefusal.TheVariants.{NoMemory};
+
     ghost from_gives = { λ _ r. r ≡ NoMemory };
 
     fn from(_error: AllocError) -> ScoreRefusal {

@@ -16,6 +16,6 @@ mod score_lines;
 mod script;
 mod text;
 
-pub use fault::{ScoreFault, ScoreRefusal};
+pub use fault::{ScoreFault, ScoreFaultKind, ScoreRefusal};
 pub use limits::{BATCH_SIZE, MAX_ADDRESSES, MAX_NODES, MAX_SCORE};
 pub use score::Score;

@@ -7,13 +7,13 @@ ghost use Rattle.osc_pattern.specs.Addresses.{is_address};
 ghost use Rattle.osc_message.specs.Reading.{is_message};
 ghost use Rattle.osc_script.specs.Words.{words_of};
 ghost use Rattle.osc_script.specs.Acts.{and_then};
-ghost use Rattle.osc_score.specs.Kinds.{arg_kind, address_kind};
+ghost use Rattle.osc_score.specs.declared.fault.ScoreFaultKind.TheVariants as kinds;
 ghost use Rattle.osc_score.specs.ArgumentWords.{arguments_read};
 ghost use Rattle.osc_score.specs.Reading.{note_read, balanced_note};
 ghost use Rattle.osc_score.specs.Argued.{ArguesAll, TellsMessage, TellsNote};
 
 use crate::argument::put_word;
-use crate::fault::ScoreFault;
+use crate::fault::ScoreFaultKind;
 use crate::number::read_tag;
 use osc_atoms::Bytes;
 use osc_message::{are_balanced, message_bytes};
@@ -36,7 +36,7 @@ pub(crate) fn read_note(
     moment: &[u8],
     address: &[u8],
     words: &[u8],
-) -> Result<Said, LineRefusal>
+) -> Result<Said, LineRefusal<ScoreFaultKind>>
     requires { length words.now ≤ MAX_SCORE }
     ensures read { TellsNote result (note_read least moment.now address.now (words_of words.now)) }
     ensures message { IfOk result (λ said. IsTrue (is_message MAX_BYTES said.message)) }
@@ -44,21 +44,26 @@ pub(crate) fn read_note(
     match read_tag(moment) {
         Some(tag) => {
             if tag < least {
-                return Err(LineRefusal::Kind(ScoreFault::ORDER));
+                return Err(LineRefusal::Kind(ScoreFaultKind::Order));
             }
             read_at(alloc, tag, address, words)
         }
-        None => Err(LineRefusal::Kind(ScoreFault::TAG)),
+        None => Err(LineRefusal::Kind(ScoreFaultKind::Tag)),
     }
 }
 
 /// What the words after a tag say.
-fn read_at(alloc: Global, tag: u64, address: &[u8], words: &[u8]) -> Result<Said, LineRefusal>
+fn read_at(
+    alloc: Global,
+    tag: u64,
+    address: &[u8],
+    words: &[u8],
+) -> Result<Said, LineRefusal<ScoreFaultKind>>
     requires { length words.now ≤ MAX_SCORE }
     ensures read { TellsNote result (if is_address address.now
-        then and_then (ok_or (arguments_read (words_of words.now)) arg_kind)
+        then and_then (ok_or (arguments_read (words_of words.now)) kinds.Arg)
         (balanced_note tag address.now)
-        else Err address_kind) }
+        else Err kinds.Address) }
     ensures message { IfOk result (λ said. IsTrue (is_message MAX_BYTES said.message)) }
 {
     match Address::read(alloc, address) {
@@ -71,15 +76,19 @@ fn read_at(alloc: Global, tag: u64, address: &[u8], words: &[u8]) -> Result<Said
             Err(refusal) => Err(refusal),
         },
         Err(AddressFault::NoMemory) => Err(LineRefusal::NoMemory),
-        Err(_) => Err(LineRefusal::Kind(ScoreFault::ADDRESS)),
+        Err(_) => Err(LineRefusal::Kind(ScoreFaultKind::Address)),
     }
 }
 
 /// The message to an address, with the arguments of the words.
-fn read_message(alloc: Global, address: &Address, words: &[u8]) -> Result<Bytes, LineRefusal>
+fn read_message(
+    alloc: Global,
+    address: &Address,
+    words: &[u8],
+) -> Result<Bytes, LineRefusal<ScoreFaultKind>>
     requires { length words.now ≤ MAX_SCORE }
     ensures read { (tag : ℕ) → TellsMessage result tag address.now
-        (and_then (ok_or (arguments_read (words_of words.now)) arg_kind)
+        (and_then (ok_or (arguments_read (words_of words.now)) kinds.Arg)
         (balanced_note tag address.now)) }
     ensures message { IfOk result (λ message. IsTrue (is_message MAX_BYTES message)) }
 {
@@ -92,7 +101,7 @@ fn read_message(alloc: Global, address: &Address, words: &[u8]) -> Result<Bytes,
         return Err(refusal);
     }
     if !are_balanced(&tags) {
-        return Err(LineRefusal::Kind(ScoreFault::BRACKETS));
+        return Err(LineRefusal::Kind(ScoreFaultKind::Brackets));
     }
     Ok(Bytes::of(message_bytes(alloc, address.bytes(), &tags, &atoms)?))
 }
@@ -103,7 +112,7 @@ fn put_words(
     words: &[u8],
     tags: &mut Vec<u8>,
     atoms: &mut Vec<u8>,
-) -> Result<(), LineRefusal>
+) -> Result<(), LineRefusal<ScoreFaultKind>>
     requires { length words.now ≤ MAX_SCORE }
     ensures { ArguesAll result (arguments_read (words_of words.now)) tags.old.items
         atoms.old.items tags.new.items atoms.new.items }

@@ -1,6 +1,6 @@
 //! Scores.
 use crate::added_note::all_runs;
-use crate::fault::{ScoreFault, ScoreRefusal};
+use crate::fault::{ScoreFault, ScoreFaultKind, ScoreRefusal};
 use crate::limits::MAX_SCORE;
 use crate::reader::Reader;
 use crate::run::Run;
@@ -32,7 +32,8 @@ impl Score {
     ghost use Rattle.osc_score.specs.declared.limits.TheConstants.{MAX_SCORE};
     ghost use Rattle.std.specs.Prelude.{◌≡◌, ◌<◌, ◌≤◌, ℕ, List, length, Err, IfOk};
     ghost use Rattle.osc_score.specs.declared.fault.ScoreFault.{ScoreFault};
-    ghost use Rattle.osc_score.specs.Kinds.{too_long_kind};
+    ghost use Rattle.osc_score.specs.declared.fault.ScoreFaultKind.TheVariants as kinds;
+    ghost use Rattle.osc_score.specs.Kinds.{kind_number};
     ghost use Rattle.osc_score.specs.Scores.{Note};
     ghost use Rattle.osc_score.specs.Reading.{score_of};
     ghost use Rattle.osc_score.specs.Plans.{plan_of, plan_script};
@@ -45,14 +46,14 @@ impl Score {
         ensures reads { Reads result (score_of bytes.now) }
         ensures first { (fault : ScoreFault) → result ≡ Err (ScoreRefusal.Fault fault)
             → 0 < fault.line → IsFirstFault bytes.now fault }
-        ensures long { MAX_SCORE < length bytes.now
-            → result ≡ Err (ScoreRefusal.Fault (record { line = 0; kind = too_long_kind })) }
+        ensures long { MAX_SCORE < length bytes.now → result
+            ≡ Err (ScoreRefusal.Fault (record { line = 0; kind = kind_number kinds.TooLong })) }
         ensures short { IfOk result (λ _. length bytes.now ≤ MAX_SCORE) }
     {
         if bytes.len() > MAX_SCORE {
             return Err(ScoreRefusal::Fault(ScoreFault {
                 line: 0,
-                kind: ScoreFault::TOO_LONG,
+                kind: ScoreFaultKind::TooLong.number(),
             }));
         }
         match read_lines(alloc, bytes) {

@@ -8,7 +8,7 @@ ghost use Rattle.osc_score.specs.Reading.{note_read, note_added, least_of, line_
 ghost use Rattle.osc_score.specs.Keeping.{Keeps, IsReading, Goes, KeepsAll};
 
 use crate::added_note::add_note;
-use crate::fault::{ScoreFault, ScoreRefusal};
+use crate::fault::{ScoreFault, ScoreFaultKind, ScoreRefusal};
 use crate::limits::{MAX_ADDRESSES, MAX_NODES};
 use crate::note::{Said, read_note};
 use crate::reader::Reader;
@@ -31,7 +31,10 @@ pub(crate) fn read_lines(alloc: Global, bytes: &[u8]) -> Result<Reader, ScoreRef
         match read_line(&mut reader, text) {
             Ok(()) => {}
             Err(LineRefusal::Kind(kind)) => {
-                return Err(ScoreRefusal::Fault(ScoreFault { line: number, kind }));
+                return Err(ScoreRefusal::Fault(ScoreFault {
+                    line: number,
+                    kind: kind.number(),
+                }));
             }
             Err(LineRefusal::NoMemory) => return Err(ScoreRefusal::NoMemory),
         }
@@ -56,7 +59,7 @@ fn open_reader(alloc: Global) -> Result<Reader, AllocError>
 }
 
 /// Adds what the line says; nothing where it is skipped.
-fn read_line(reader: &mut Reader, text: &[u8]) -> Result<(), LineRefusal>
+fn read_line(reader: &mut Reader, text: &[u8]) -> Result<(), LineRefusal<ScoreFaultKind>>
     requires reading { IsReading reader.old }
     requires short { length text.now ≤ MAX_SCORE }
     ensures { (notes : List Note) → Keeps reader.old notes
@@ -68,7 +71,7 @@ fn read_line(reader: &mut Reader, text: &[u8]) -> Result<(), LineRefusal>
     match next_word(text) {
         Some((moment, after)) => match next_word(after) {
             Some((address, words)) => read_words(reader, moment, address, words),
-            None => Err(LineRefusal::Kind(ScoreFault::COUNT)),
+            None => Err(LineRefusal::Kind(ScoreFaultKind::Count)),
         },
         None => Ok(()),
     }
@@ -80,7 +83,7 @@ fn read_words(
     moment: &[u8],
     address: &[u8],
     words: &[u8],
-) -> Result<(), LineRefusal>
+) -> Result<(), LineRefusal<ScoreFaultKind>>
     requires reading { IsReading reader.old }
     requires short { length words.now ≤ MAX_SCORE }
     ensures { (notes : List Note) → Keeps reader.old notes → Goes result
