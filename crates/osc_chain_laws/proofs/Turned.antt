@@ -9,9 +9,10 @@ use Rattle.osc_model.specs.State.{State, opening}
 use Rattle.osc_model.specs.Events.{Entry}
 use Rattle.osc_model.specs.History.{Legal, after}
 use Rattle.osc_script.specs.declared.fault.ScriptFault.{ScriptFault}
+use Rattle.osc_script.specs.declared.fault.ScriptFaultKind.TheVariants as kinds
 use Rattle.osc_script.specs.declared.line.Line.{Line}
 use Rattle.osc_script.specs.declared.mode.Mode.TheVariants.{Plain}
-use Rattle.osc_script.specs.Kinds.{too_long_kind}
+use Rattle.osc_script.specs.Kinds.{kind_number}
 use Rattle.osc_script.specs.Scripts.{script_of, script_from}
 use Rattle.osc_script.specs.Words.{lines_of}
 use Rattle.osc_alike.specs.Alike.{address_of}
@@ -37,7 +38,8 @@ use Rattle.osc_chain_laws.proofs.Lines.{carried_adds}
 read_short : (script : List ℕ) (lines : List Line) → script_of Plain script ≡ Ok lines → length script ≤ MAX_SCRIPT
 read_short script lines read = go (nat_lt MAX_SCRIPT (length script)) refl read where
   go : (t : Bool) → nat_lt MAX_SCRIPT (length script) ≡ t
-      → cond {A = Result (List Line) ScriptFault} t (Err (record { line = 0; kind = too_long_kind })) (script_from Plain 1 (lines_of script)) ≡ Ok lines
+      → cond {A = Result (List Line) ScriptFault} t (Err (record { line = 0; kind = kind_number kinds.TooLong }))
+      (script_from Plain 1 (lines_of script)) ≡ Ok lines
       → length script ≤ MAX_SCRIPT
   go true e is = absurd (cc)
   go false e is = ltb-false _ _ e

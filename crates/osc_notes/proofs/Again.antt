@@ -19,7 +19,9 @@ use Rattle.osc_script.specs.Words.{words_of, lines_of}
 use Rattle.osc_script.specs.Acts.{and_then}
 use Rattle.osc_script.proofs.Inked.{address_inked}
 use Rattle.osc_score.specs.declared.fault.ScoreFault.{ScoreFault}
-use Rattle.osc_score.specs.Kinds.{too_long_kind, tag_kind, order_kind, address_kind, arg_kind, brackets_kind, bundle_kind}
+use Rattle.osc_score.specs.declared.fault.ScoreFaultKind.{ScoreFaultKind}
+use Rattle.osc_score.specs.declared.fault.ScoreFaultKind.TheVariants as kinds
+use Rattle.osc_score.specs.Kinds.{kind_number}
 use Rattle.osc_score.specs.Scores.{Note, groups_of, bundle_text, tree_of, IsNote, IsOfBytes, IsOrdered, IsScore}
 use Rattle.osc_score.specs.ArgumentWords.{arguments_read}
 use Rattle.osc_score.specs.Reading.{are_balanced, balanced_note, note_at, note_read, least_of, run_with, unless_refused, note_added}
@@ -45,21 +47,21 @@ balanced_again arguments is = ap is_ok (balance_again 0 (map tag_of arguments) i
 at_again : (least : ℕ) (note : Note) → IsNote note → is_address note.address ≡ true → least ≤ note.tag
     → note_at least note.tag note.address (map argument_word note.arguments) ≡ Ok note
 at_again least note is address later =
-    ap (λ (t : Bool). cond {A = Result Note ℕ} t (Err order_kind)
-    (cond (is_address note.address) (and_then (ok_or (arguments_read (map argument_word note.arguments)) arg_kind)
-    (balanced_note note.tag note.address)) (Err address_kind)))
+    ap (λ (t : Bool). cond {A = Result Note ScoreFaultKind} t (Err kinds.Order)
+    (cond (is_address note.address) (and_then (ok_or (arguments_read (map argument_word note.arguments)) kinds.Arg)
+    (balanced_note note.tag note.address)) (Err kinds.Address)))
     (le-ltb note.tag least later)
-    ∙ ap (λ (t : Bool). cond {A = Result Note ℕ} t
-    (and_then (ok_or (arguments_read (map argument_word note.arguments)) arg_kind) (balanced_note note.tag note.address))
-    (Err address_kind)) address
-    ∙ ap (λ (o : Option (List Argument)). and_then (ok_or o arg_kind) (balanced_note note.tag note.address))
+    ∙ ap (λ (t : Bool). cond {A = Result Note ScoreFaultKind} t
+    (and_then (ok_or (arguments_read (map argument_word note.arguments)) kinds.Arg) (balanced_note note.tag note.address))
+    (Err kinds.Address)) address
+    ∙ ap (λ (o : Option (List Argument)). and_then (ok_or o kinds.Arg) (balanced_note note.tag note.address))
     (words_again note.arguments is.arguments is.bytes)
-    ∙ ap (λ (t : Bool). cond {A = Result Note ℕ} t (Ok note) (Err brackets_kind)) (balanced_again note.arguments is.balanced)
+    ∙ ap (λ (t : Bool). cond {A = Result Note ScoreFaultKind} t (Ok note) (Err kinds.Brackets)) (balanced_again note.arguments is.balanced)
 
 note_again : (least : ℕ) (note : Note) → IsNote note → is_address note.address ≡ true → least ≤ note.tag
     → note_read least (encode_lower (tag note.tag)) note.address (map argument_word note.arguments) ≡ Ok note
 note_again least note is address later =
-    ap (λ (o : Option ℕ). and_then (ok_or o tag_kind)
+    ap (λ (o : Option ℕ). and_then (ok_or o kinds.Tag)
     (λ (moment : ℕ). note_at least moment note.address (map argument_word note.arguments)))
     (read_64 note.tag is.fits)
     ∙ at_again least note is address later
@@ -73,9 +75,9 @@ pub line_again : TestsAddresses → (notes : List Note) (note : Note) → IsNote
     → line_read notes (note_text note) ≡ note_added notes note
 line_again tests notes note is later =
     let cut : IsCut note = cut_again tests note is in
-    ap (λ (t : Bool). cond {A = Result (List Note) ℕ} t (Ok notes) (words_read notes (words_of (note_text note)))) cut.mark
+    ap (λ (t : Bool). cond {A = Result (List Note) ScoreFaultKind} t (Ok notes) (words_read notes (words_of (note_text note)))) cut.mark
     ∙ ap (words_read notes) cut.words
-    ∙ ap (λ (r : Result Note ℕ). and_then r (note_added notes))
+    ∙ ap (λ (r : Result Note ScoreFaultKind). and_then r (note_added notes))
     (note_again (least_of notes) note is ((tests note.address).1 is.address) later)
 
 -- Scores.
@@ -89,9 +91,9 @@ lines_again : TestsAddresses → (number : ℕ) (front back : List Note) → IsS
 lines_again tests number front [] is = ap Ok (sym (append-nil front))
 lines_again tests number front (note ∷ back) is =
     let whole : IsScore ((front ++ note ∷ []) ++ back) = subst IsScore (sym (append_assoc front (note ∷ []) back)) is in
-    ap (λ (r : Result (List Note) ℕ). elim r as (λ x. Result (List Note) ScoreFault) [
+    ap (λ (r : Result (List Note) ScoreFaultKind). elim r as (λ x. Result (List Note) ScoreFault) [
       | Ok more ↦ lines_read (number + 1) more (map note_text back)
-      | Err kind ↦ Err (record { line = number; kind = kind })
+      | Err kind ↦ Err (record { line = number; kind = kind_number kind })
     ])
     (line_again tests front note (one_behind IsNote front note back is.lawful) (last_before 2 front note back is.ordered)
     ∙ score_added front note (front_score (front ++ note ∷ []) back whole))
@@ -101,7 +103,7 @@ lines_again tests number front (note ∷ back) is =
 pub score_again : TestsAddresses → (notes : List Note) → IsScore notes → length (score_text notes) ≤ MAX_SCORE
     → score_of (score_text notes) ≡ Ok notes
 score_again tests notes is short =
-    ap (λ (t : Bool). cond {A = Result (List Note) ScoreFault} t (Err (record { line = 0; kind = too_long_kind }))
+    ap (λ (t : Bool). cond {A = Result (List Note) ScoreFault} t (Err (record { line = 0; kind = kind_number kinds.TooLong }))
     (lines_read 1 [] (lines_of (score_text notes))))
     (le-ltb MAX_SCORE (length (score_text notes)) short)
     ∙ ap (lines_read 1 []) (lines_cut notes (all_cut tests notes is.lawful))
@@ -117,12 +119,12 @@ last_tag least (first ∷ notes) note = last_tag first.tag notes note
 added_last : (notes : List Note) (note : Note) (more : List Note) → note_added notes note ≡ Ok more → least_of more ≡ note.tag
 added_last notes note more is =
     go (nat_lt MAX_PACKET (length (bundle_text (run_with (groups_of notes) note)))) (add_refusal (tree_of notes) note.address) is where
-      last : (read : Result (List Note) ℕ) → read ≡ Ok (notes ++ note ∷ []) → read ≡ Ok more → least_of more ≡ note.tag
+      last : (read : Result (List Note) ScoreFaultKind) → read ≡ Ok (notes ++ note ∷ []) → read ≡ Ok more → least_of more ≡ note.tag
       last read one other =
           let same : notes ++ note ∷ [] ≡ more = cc in
           ap least_of (sym same) ∙ last_tag 2 notes note
 
-      go : (t : Bool) (o : Option Refusal) → cond {A = Result (List Note) ℕ} t (Err bundle_kind)
+      go : (t : Bool) (o : Option Refusal) → cond {A = Result (List Note) ScoreFaultKind} t (Err kinds.Bundle)
           (unless_refused o (notes ++ note ∷ [])) ≡ Ok more
           → least_of more ≡ note.tag
       go true o so = absurd (cc)
@@ -137,21 +139,21 @@ lines_added : TestsAddresses → (number : ℕ) (before notes : List Note) → A
     → lines_read number before (map note_text notes) ≡ notes_added number before notes
 lines_added tests number before [] all ordered = refl
 lines_added tests number before (note ∷ notes) all ordered =
-    ap (λ (r : Result (List Note) ℕ). elim r as (λ x. Result (List Note) ScoreFault) [
+    ap (λ (r : Result (List Note) ScoreFaultKind). elim r as (λ x. Result (List Note) ScoreFault) [
       | Ok more ↦ lines_read (number + 1) more (map note_text notes)
-      | Err kind ↦ Err (record { line = number; kind = kind })
+      | Err kind ↦ Err (record { line = number; kind = kind_number kind })
     ]) (line_again tests before note all.0 ordered.0)
     ∙ go (note_added before note) (λ more is. added_last before note more is)
     (λ more is. lines_added tests (number + 1) more notes all.1 (subst (λ (n : ℕ). IsOrdered n notes) (sym is) ordered.1)) where
-      go : (r : Result (List Note) ℕ) → ((more : List Note) → r ≡ Ok more → least_of more ≡ note.tag)
+      go : (r : Result (List Note) ScoreFaultKind) → ((more : List Note) → r ≡ Ok more → least_of more ≡ note.tag)
           → ((more : List Note) → least_of more ≡ note.tag
           → lines_read (number + 1) more (map note_text notes) ≡ notes_added (number + 1) more notes)
           → elim r as (λ x. Result (List Note) ScoreFault) [
             | Ok more ↦ lines_read (number + 1) more (map note_text notes)
-            | Err kind ↦ Err (record { line = number; kind = kind })
+            | Err kind ↦ Err (record { line = number; kind = kind_number kind })
           ] ≡ elim r as (λ x. Result (List Note) ScoreFault) [
             | Ok more ↦ notes_added (number + 1) more notes
-            | Err kind ↦ Err (record { line = number; kind = kind })
+            | Err kind ↦ Err (record { line = number; kind = kind_number kind })
           ]
       go (Ok more) last later = later more (last more refl)
       go (Err kind) last later = refl
@@ -160,7 +162,7 @@ pub notes_again : TestsAddresses → (notes : List Note) → AllByRecursion IsNo
     → length (score_text notes) ≤ MAX_SCORE
     → score_of (score_text notes) ≡ notes_added 1 [] notes
 notes_again tests notes all ordered short =
-    ap (λ (t : Bool). cond {A = Result (List Note) ScoreFault} t (Err (record { line = 0; kind = too_long_kind }))
+    ap (λ (t : Bool). cond {A = Result (List Note) ScoreFault} t (Err (record { line = 0; kind = kind_number kinds.TooLong }))
     (lines_read 1 [] (lines_of (score_text notes))))
     (le-ltb MAX_SCORE (length (score_text notes)) short)
     ∙ ap (lines_read 1 []) (lines_cut notes (all_cut tests notes all))

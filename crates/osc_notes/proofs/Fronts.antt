@@ -18,7 +18,8 @@ use Rattle.osc_tree.specs.Registry.{Registry, IsLawful, NoneAt}
 use Rattle.osc_tree.specs.Adding.{Refusal, taken, under_method, is_container, methods_full, nodes_full, Refuses, add_refusal}
 use Rattle.osc_tree.proofs.Refusing.{first_refuses}
 use Rattle.osc_tree.proofs.Lawful.{one_more_nodes}
-use Rattle.osc_score.specs.Kinds.{bundle_kind}
+use Rattle.osc_score.specs.declared.fault.ScoreFaultKind.{ScoreFaultKind}
+use Rattle.osc_score.specs.declared.fault.ScoreFaultKind.TheVariants as kinds
 use Rattle.osc_score.specs.Scores.{Note, Group, alone, groups_of, elements_of, bundle_text, first_uses, addresses_of, methods_from}
 use Rattle.osc_score.specs.Scores.{tree_of, message_of, IsNote, IsOrdered, IsShort, IsScore}
 use Rattle.osc_score.specs.Reading.{run_with, extended, unless_refused, note_added}
@@ -258,7 +259,7 @@ front_score front (note ∷ back) is =
 pub score_added : (notes : List Note) (note : Note) → IsScore (notes ++ note ∷ []) → note_added notes note ≡ Ok (notes ++ note ∷ [])
 score_added notes note is =
     let short : IsShort (run_with (groups_of notes) note) = (runs_short notes note is.short).1 in
-    ap (λ (t : Bool). cond {A = Result (List Note) ℕ} t (Err bundle_kind)
+    ap (λ (t : Bool). cond {A = Result (List Note) ScoreFaultKind} t (Err kinds.Bundle)
     (unless_refused (add_refusal (tree_of notes) note.address) (notes ++ note ∷ [])))
     (le-ltb MAX_PACKET (length (bundle_text (run_with (groups_of notes) note))) short)
     ∙ stands notes note (less_tree notes note is.tree) is.tree

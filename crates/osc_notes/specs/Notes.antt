@@ -8,6 +8,7 @@ use Rattle.osc_message.specs.Reading.{pattern_of}
 use Rattle.osc_message.specs.Arguments.{message_arguments}
 use Rattle.osc_print.specs.Words.{spaced, argument_words}
 use Rattle.osc_score.specs.declared.fault.ScoreFault.{ScoreFault}
+use Rattle.osc_score.specs.Kinds.{kind_number}
 use Rattle.osc_score.specs.Scores.{Note}
 use Rattle.osc_score.specs.Reading.{note_added}
 
@@ -40,5 +41,5 @@ abbrev pub notes_added : ℕ → List Note → List Note → Result (List Note) 
 notes_added number before [] = Ok before
 notes_added number before (note ∷ notes) = elim (note_added before note) [
   | Ok more ↦ notes_added (number + 1) more notes
-  | Err kind ↦ Err (record { line = number; kind = kind })
+  | Err kind ↦ Err (record { line = number; kind = kind_number kind })
 ]
