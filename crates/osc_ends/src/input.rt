@@ -16,7 +16,7 @@ use crate::status::{NO_MEMORY, SOURCE_FAILED};
 use crate::whole::{Input, read_whole};
 use osc_edge::{Sink, Source};
 use osc_record::MAX_RECORDING;
-use osc_script::{Line, MAX_SCRIPT, Mode, Script, ScriptFault, ScriptRefusal};
+use osc_script::{Line, MAX_SCRIPT, Mode, Script, ScriptFault, ScriptFaultKind, ScriptRefusal};
 use std::alloc::Global;
 
 /// The lines of the script that the input is, or the status with which the program ends: 1, where
@@ -78,7 +78,7 @@ pub(crate) fn refuse_long<O: Sink>(alloc: Global, out: &mut O) -> u8
 {
     let fault = ScriptFault {
         line: 0,
-        kind: ScriptFault::TOO_LONG,
+        kind: ScriptFaultKind::TooLong.number(),
     };
     refuse(alloc, fault, out)
 }

@@ -15,7 +15,7 @@ use crate::prints::refuse_score;
 use crate::status::{NO_MEMORY, SOURCE_FAILED};
 use crate::whole::{Input, read_whole};
 use osc_edge::{Sink, Source};
-use osc_score::{MAX_SCORE, Score, ScoreFault, ScoreRefusal};
+use osc_score::{MAX_SCORE, Score, ScoreFault, ScoreFaultKind, ScoreRefusal};
 use std::alloc::Global;
 
 /// The score that the input is, or the status with which the program ends: 1, where the score is
@@ -69,7 +69,7 @@ fn refuse_long<O: Sink>(alloc: Global, out: &mut O) -> u8
 {
     let fault = ScoreFault {
         line: 0,
-        kind: ScoreFault::TOO_LONG,
+        kind: ScoreFaultKind::TooLong.number(),
     };
     refuse_score(alloc, fault, out)
 }

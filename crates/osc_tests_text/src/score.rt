@@ -1,64 +1,64 @@
 // Scores, read and written as scripts.
 use osc_atoms::Bytes;
-use osc_score::{Score, ScoreFault, ScoreRefusal};
+use osc_score::{Score, ScoreFault, ScoreFaultKind, ScoreRefusal};
 use std::alloc::Global;
 use std::test::Fail;
 
 /// The first line outside the rules, and its kind.
-const REFUSED: [(&str, u32, u8); 26] = [
-    ("0000000000000002", 1, ScoreFault::COUNT),
+const REFUSED: [(&str, u32, ScoreFaultKind); 26] = [
+    ("0000000000000002", 1, ScoreFaultKind::Count),
     (
         "# /a\n\n0000000000000002 /a\n\r\n /b \n",
         5,
-        ScoreFault::COUNT,
+        ScoreFaultKind::Count,
     ),
-    ("2 a", 1, ScoreFault::TAG),
-    ("000000000000000g /a", 1, ScoreFault::TAG),
-    ("00000000000000002 /a", 1, ScoreFault::TAG),
-    ("0000000000000001 a", 1, ScoreFault::ORDER),
+    ("2 a", 1, ScoreFaultKind::Tag),
+    ("000000000000000g /a", 1, ScoreFaultKind::Tag),
+    ("00000000000000002 /a", 1, ScoreFaultKind::Tag),
+    ("0000000000000001 a", 1, ScoreFaultKind::Order),
     (
         "0000000000000005 /a\n0000000000000004 /a\n",
         2,
-        ScoreFault::ORDER,
+        ScoreFaultKind::Order,
     ),
-    ("0000000000000002 a x", 1, ScoreFault::ADDRESS),
-    ("0000000000000002 /a* x", 1, ScoreFault::ADDRESS),
-    ("0000000000000002 /a [ i:01", 1, ScoreFault::ARG),
-    ("0000000000000002 /a i:2147483648", 1, ScoreFault::ARG),
-    ("0000000000000002 /a i:-2147483649", 1, ScoreFault::ARG),
-    ("0000000000000002 /a i:-0", 1, ScoreFault::ARG),
+    ("0000000000000002 a x", 1, ScoreFaultKind::Address),
+    ("0000000000000002 /a* x", 1, ScoreFaultKind::Address),
+    ("0000000000000002 /a [ i:01", 1, ScoreFaultKind::Arg),
+    ("0000000000000002 /a i:2147483648", 1, ScoreFaultKind::Arg),
+    ("0000000000000002 /a i:-2147483649", 1, ScoreFaultKind::Arg),
+    ("0000000000000002 /a i:-0", 1, ScoreFaultKind::Arg),
     (
         "0000000000000002 /a h:9223372036854775808",
         1,
-        ScoreFault::ARG,
+        ScoreFaultKind::Arg,
     ),
-    ("0000000000000002 /a f:0", 1, ScoreFault::ARG),
-    ("0000000000000002 /a b:0", 1, ScoreFault::ARG),
-    ("0000000000000002 /a s:a\\x00", 1, ScoreFault::ARG),
-    ("0000000000000002 /a s:\\", 1, ScoreFault::ARG),
-    ("0000000000000002 /a s:\x7f", 1, ScoreFault::ARG),
-    ("0000000000000002 /a i", 1, ScoreFault::ARG),
-    ("0000000000000002 /a T:", 1, ScoreFault::ARG),
-    ("0000000000000002 /a [ ] ]", 1, ScoreFault::BRACKETS),
+    ("0000000000000002 /a f:0", 1, ScoreFaultKind::Arg),
+    ("0000000000000002 /a b:0", 1, ScoreFaultKind::Arg),
+    ("0000000000000002 /a s:a\\x00", 1, ScoreFaultKind::Arg),
+    ("0000000000000002 /a s:\\", 1, ScoreFaultKind::Arg),
+    ("0000000000000002 /a s:\x7f", 1, ScoreFaultKind::Arg),
+    ("0000000000000002 /a i", 1, ScoreFaultKind::Arg),
+    ("0000000000000002 /a T:", 1, ScoreFaultKind::Arg),
+    ("0000000000000002 /a [ ] ]", 1, ScoreFaultKind::Brackets),
     (
         "0000000000000002 /a/b\n0000000000000002 /a [",
         2,
-        ScoreFault::BRACKETS,
+        ScoreFaultKind::Brackets,
     ),
     (
         "0000000000000002 /a/b\n0000000000000002 /a",
         2,
-        ScoreFault::CLASH,
+        ScoreFaultKind::Clash,
     ),
     (
         "0000000000000002 /a\n0000000000000002 /a/b\n2",
         2,
-        ScoreFault::CLASH,
+        ScoreFaultKind::Clash,
     ),
     (
         "0000000000000002 /a\n0000000000000002 /b\n0000000000000001 /a/b",
         3,
-        ScoreFault::ORDER,
+        ScoreFaultKind::Order,
     ),
 ];
 
@@ -70,6 +70,7 @@ fn fault_of(alloc: Global, score: &[u8]) -> Option<ScoreRefusal> {
 fn the_first_line_outside_the_rules_is_told(rt: HostRuntime) -> Result<(), Fail> {
     let alloc = rt.alloc();
     for (score, line, kind) in REFUSED {
+        let kind = kind.number();
         assert_eq!(rt;
             fault_of(alloc, score.as_bytes()),
             Some(ScoreRefusal::Fault(ScoreFault { line, kind }))
@@ -83,7 +84,7 @@ fn an_input_of_more_than_a_mebibyte_is_told_first(rt: HostRuntime) -> Result<(),
     let alloc = rt.alloc();
     let fault = ScoreFault {
         line: 0,
-        kind: ScoreFault::TOO_LONG,
+        kind: ScoreFaultKind::TooLong.number(),
     };
     let bytes = vec![in alloc; b'\n'; 1_048_577]?;
     assert_eq!(rt; fault_of(alloc, &bytes), Some(ScoreRefusal::Fault(fault)));
@@ -110,7 +111,7 @@ fn a_bundle_has_at_most_65_504_bytes(rt: HostRuntime) -> Result<(), Fail> {
     with_blob(alloc, &mut score, 0)?;
     let fault = ScoreFault {
         line: 2,
-        kind: ScoreFault::BUNDLE,
+        kind: ScoreFaultKind::Bundle.number(),
     };
     assert_eq!(rt; fault_of(alloc, &score), Some(ScoreRefusal::Fault(fault)));
     Ok(())
@@ -135,7 +136,7 @@ fn there_are_at_most_1_024_addresses_and_4_096_nodes(rt: HostRuntime) -> Result<
     for (score, line) in [(many, 1_025), (deep, 820)] {
         let fault = ScoreFault {
             line,
-            kind: ScoreFault::TREE_FULL,
+            kind: ScoreFaultKind::TreeFull.number(),
         };
         assert_eq!(rt; fault_of(alloc, &score), Some(ScoreRefusal::Fault(fault)));
     }
