@@ -1,7 +1,9 @@
--- A plain text and a star match the addresses that begin with the text and have no slash after it; those below a node stand together.
+-- A plain text, a star and a plain tail match the addresses that begin with the text, have no slash after it and end with the tail; those below a
+-- node stand together.
 use Rattle.std.proofs.Common.{◌≡◌, ℕ, zero, suc, ◌+◌, ◌-◌, ◌<◌, ◌≤◌, Bool, true, false, not, cond, ◌&&◌, ◌||◌, List, [], ◌∷◌, ◌++◌, length, take, drop, map}
 use Rattle.std.proofs.Common.{filter, get_or, position, Some, All, nat_eq, refl, sym, ap, subst, ◌∙◌, arith, add-one}
-use Rattle.std.specs.List.{list_any, slice_split, onto_first, starts_with, before_first}
+use Rattle.std.specs.List.{list_any, slice_split, onto_first, starts_with, ends_with, before_first}
+use Rattle.std.proofs.Math.Bool.{and-false}
 use Rattle.std.proofs.Math.Seq.{drop-append_seam, drop-cons, take-suc}
 use Rattle.std.proofs.lemmas.List.{take-append-drop, drop-drop, length-append, length-drop, length-map, length-take-le, map-append}
 use Rattle.std.proofs.lemmas.List.Quantifiers.{position-Some}
@@ -10,10 +12,9 @@ use Rattle.std.proofs.lemmas.Bool.Decides.{nat_tests}
 use Rattle.osc_pattern.specs.Items.{is_slash}
 use Rattle.osc_pattern.specs.Methods.{Method, IsMethodList}
 use Rattle.osc_pattern.specs.Patterns.{begins_with_slash, is_special, matches, match_parts}
-use Rattle.osc_pattern.specs.Reading.{match_part}
 use Rattle.osc_pattern.proofs.Parts.{split-cons}
-use Rattle.osc_pattern.proofs.Matches.{star_matches}
 use Rattle.osc_tree.specs.declared.registered.Registered.{Registered}
+use Rattle.osc_tree.specs.Choosing.{is_odd, IsPlainStar}
 use Rattle.osc_tree.specs.Matching.{matching_ids}
 use Rattle.osc_tree.specs.Order.{IsOrder, IsSearched, begins_with, is_flat}
 use Rattle.osc_tree.specs.Views.{methods_of, methods_at}
@@ -27,47 +28,27 @@ use Rattle.osc_tree.proofs.Literals.{own_beginning, plain_same}
 use Rattle.osc_tree.proofs.Onward.{lower_prefix}
 use Rattle.osc_tree.proofs.Overs.{slash_first}
 use Rattle.osc_tree.proofs.Ranges.{lower, lower_order, lower_more, ascend_far, searched_none, searched_up}
+use Rattle.osc_tree.proofs.Tails.{nothing_alone, tail_name}
 use Rattle.osc_tree.proofs.Walks.{filter_far, kept_push}
 
-star_alone : (name : List ℕ) → match_part (42 ∷ []) name ≡ true
-star_alone name = star_matches (42 ∷ []) name refl refl
-
-nothing_alone : match_part [] [] ≡ true
-unfolding Rattle.osc_pattern.specs.Reading.read_part
-nothing_alone = refl
-
-star_first : (one other : List ℕ) (names : List (List ℕ)) → match_parts ((42 ∷ []) ∷ []) (one ∷ names) ≡ match_parts ((42 ∷ []) ∷ []) (other ∷ names)
-star_first one other names = ap (λ t. t && match_parts [] names) (star_alone one ∙ sym (star_alone other))
-
--- a star alone matches one name
-one_name : (rest : List ℕ) → match_parts ((42 ∷ []) ∷ []) (slice_split is_slash rest) ≡ not (list_any is_slash rest)
-one_name [] = ap (λ t. t && true) (star_alone [])
-one_name (x ∷ rest) = go (is_slash x) (split-cons rest) (one_name rest) where
-  go : (t : Bool) → (name : List ℕ) × (names : List (List ℕ)) × (slice_split is_slash rest ≡ name ∷ names)
-      → match_parts ((42 ∷ []) ∷ []) (slice_split is_slash rest) ≡ not (list_any is_slash rest)
-      → match_parts ((42 ∷ []) ∷ []) (cond t ([] ∷ slice_split is_slash rest) (onto_first x (slice_split is_slash rest))) ≡ not (t || list_any is_slash rest)
-  go true (name, names, e) more = ap (λ l. match_parts ((42 ∷ []) ∷ []) ([] ∷ l)) e ∙ ap (λ t. t && false) (star_alone [])
-  go false (name, names, e) more =
-      ap (λ l. match_parts ((42 ∷ []) ∷ []) (onto_first x l)) e ∙ star_first (x ∷ name) name names
-      ∙ sym (ap (match_parts ((42 ∷ []) ∷ [])) e) ∙ more
-
-front_and_star : (front rest : List ℕ) → list_any is_special front ≡ false
-    → match_parts (slice_split is_slash (front ++ 42 ∷ [])) (slice_split is_slash (front ++ rest)) ≡ not (list_any is_slash rest)
-front_and_star [] rest none = one_name rest
-front_and_star (x ∷ front) rest none =
+front_and_star : (front tail rest : List ℕ) → list_any is_special front ≡ false → list_any is_odd tail ≡ false
+    → match_parts (slice_split is_slash (front ++ 42 ∷ tail)) (slice_split is_slash (front ++ rest))
+    ≡ (not (list_any is_slash rest) && ends_with nat_eq rest tail)
+front_and_star [] tail rest none even = tail_name tail rest even
+front_and_star (x ∷ front) tail rest none even =
     let both = or_parts (is_special x) (list_any is_special front) none in
-    go (is_slash x) refl both.0 (split-cons (front ++ 42 ∷ [])) (split-cons (front ++ rest)) (front_and_star front rest both.1) where
+    go (is_slash x) refl both.0 (split-cons (front ++ 42 ∷ tail)) (split-cons (front ++ rest)) (front_and_star front tail rest both.1 even) where
       parts : List (List ℕ)
-      parts = slice_split is_slash (front ++ 42 ∷ [])
+      parts = slice_split is_slash (front ++ 42 ∷ tail)
 
       names : List (List ℕ)
       names = slice_split is_slash (front ++ rest)
 
-      go : (t : Bool) → is_slash x ≡ t → is_special x ≡ false
+      go : {is : Bool} (t : Bool) → is_slash x ≡ t → is_special x ≡ false
           → (part : List ℕ) × (others : List (List ℕ)) × (parts ≡ part ∷ others)
           → (name : List ℕ) × (more : List (List ℕ)) × (names ≡ name ∷ more)
-          → match_parts parts names ≡ not (list_any is_slash rest)
-          → match_parts (cond t ([] ∷ parts) (onto_first x parts)) (cond t ([] ∷ names) (onto_first x names)) ≡ not (list_any is_slash rest)
+          → match_parts parts names ≡ is
+          → match_parts (cond t ([] ∷ parts) (onto_first x parts)) (cond t ([] ∷ names) (onto_first x names)) ≡ is
       go true slash special first second is = ap (λ t. t && match_parts parts names) nothing_alone ∙ is
       go false slash special (part, others, e) (name, more, f) is =
           ap (λ l. match_parts (onto_first x l) (onto_first x names)) e
@@ -75,17 +56,18 @@ front_and_star (x ∷ front) rest none =
           ∙ ap (λ t. t && match_parts others more) (plain_same x part name special slash)
           ∙ sym (ap (λ l. match_parts l names) e ∙ ap (match_parts (part ∷ others)) f) ∙ is
 
--- a plain text and a star match what begins with the text and has no slash after it
-star_flat : (text : List ℕ) (method : Method) → begins_with_slash text ≡ true → list_any is_special text ≡ false → begins_with text method ≡ true
-    → is_flat (length text) method ≡ matches (text ++ 42 ∷ []) method.address
-star_flat [] method slash none begun = absurd (cc)
-star_flat (x ∷ text) method slash none begun =
-    let tail = begun_rest method.address (x ∷ text) begun in
+-- a plain text, a star and a plain tail match what begins with the text, and has after it no slash, and the tail at its end
+star_flat : (text tail : List ℕ) (method : Method) → begins_with_slash text ≡ true → list_any is_special text ≡ false → list_any is_odd tail ≡ false
+    → begins_with text method ≡ true → is_flat (length text) tail method ≡ matches (text ++ 42 ∷ tail) method.address
+star_flat [] tail method slash none even begun = absurd (cc)
+star_flat (x ∷ text) tail method slash none even begun =
+    let rest = begun_rest method.address (x ∷ text) begun in
     let both = or_parts (is_special x) (list_any is_special text) none in
-    ap (λ l. not (list_any is_slash (drop (length (x ∷ text)) l))) tail.1
-    ∙ ap (λ l. not (list_any is_slash l)) (drop-append_seam (x ∷ text) tail.0)
-    ∙ sym (front_and_star text tail.0 both.1)
-    ∙ ap (matches ((x ∷ text) ++ 42 ∷ [])) (sym tail.1)
+    let after = λ (l : List ℕ). not (list_any is_slash l) && ends_with nat_eq l tail in
+    ap (λ l. after (drop (length (x ∷ text)) l)) rest.1
+    ∙ ap after (drop-append_seam (x ∷ text) rest.0)
+    ∙ sym (front_and_star text tail rest.0 both.1 even)
+    ∙ ap (matches ((x ∷ text) ++ 42 ∷ tail)) (sym rest.1)
 
 both_filters : (p q b : Method → Bool) (methods : List Method) → ((method : Method) → b method ≡ true → p method ≡ q method)
     → filter p (filter b methods) ≡ filter q (filter b methods)
@@ -99,15 +81,16 @@ both_filters p q b (method ∷ methods) same = go (b method) refl (both_filters 
   go false e more = more
 
 -- the flat ones of those that begin with a text are those that the text and a star match
-pub flat_ids : (pattern text : List ℕ) (registered : List Registered) (places near : List ℕ) → IsMethodList (methods_of registered)
+pub flat_ids : (pattern text tail : List ℕ) (registered : List Registered) (places near : List ℕ) → IsMethodList (methods_of registered)
     → IsOrder registered places → begins_with_slash pattern ≡ true → text ≡ before_first is_special pattern → begins_with_slash text ≡ true
-    → list_any is_special text ≡ false → pattern ≡ text ++ 42 ∷ [] → methods_at registered near ≡ filter (begins_with text) (methods_at registered places)
-    → map (λ (method : Method). method.id) (filter (is_flat (length text)) (methods_at registered near)) ≡ matching_ids pattern (methods_of registered)
-flat_ids pattern text registered places near list order slash front first none is those =
-    ap (λ l. map (λ (method : Method). method.id) (filter (is_flat (length text)) l)) those
+    → list_any is_special text ≡ false → IsPlainStar (drop (length text) pattern) tail → pattern ≡ text ++ drop (length text) pattern → methods_at registered near ≡ filter (begins_with text) (methods_at registered places)
+    → map (λ (method : Method). method.id) (filter (is_flat (length text) tail) (methods_at registered near)) ≡ matching_ids pattern (methods_of registered)
+flat_ids pattern text tail registered places near list order slash front first none behind whole those =
+    let is : pattern ≡ text ++ 42 ∷ tail = whole ∙ ap (λ l. text ++ l) behind.is in
+    ap (λ l. map (λ (method : Method). method.id) (filter (is_flat (length text) tail) l)) those
     ∙ ap (map (λ (method : Method). method.id))
-    (both_filters (is_flat (length text)) (λ method. matches pattern method.address) (begins_with text) (methods_at registered places)
-    (λ method begun. star_flat text method first none begun ∙ ap (λ l. matches l method.address) (sym is))
+    (both_filters (is_flat (length text) tail) (λ method. matches pattern method.address) (begins_with text) (methods_at registered places)
+    (λ method begun. star_flat text tail method first none behind.even begun ∙ ap (λ l. matches l method.address) (sym is))
     ∙ found_is pattern text registered places list order slash front)
 
 -- those that begin with a text are as long as it is
@@ -172,40 +155,53 @@ slash_left (suc from) [] more le = absurd (omega arith)
 slash_left (suc from) (x ∷ node) more le = slash_left from node more (omega arith)
 
 -- none of those is flat
-pub node_passed : (methods : List Method) (at next from : ℕ) (node rest : List ℕ) (d : Method) → IsSorted methods → at < length methods
+pub node_passed : (methods : List Method) (at next from : ℕ) (tail node rest : List ℕ) (d : Method) → IsSorted methods → at < length methods
     → from ≤ length node → (get_or methods at d).address ≡ node ++ 47 ∷ rest → IsSearched (node ++ 48 ∷ []) methods next next → at < next
-    → filter (is_flat from) (take next methods) ≡ filter (is_flat from) (take at methods)
-node_passed methods at next from node rest d sorted within le own searched less =
+    → filter (is_flat from tail) (take next methods) ≡ filter (is_flat from tail) (take at methods)
+node_passed methods at next from tail node rest d sorted within le own searched less =
     let bound = searched.bound in
     let span : at + (next - at) ≡ next = omega arith in
-    sym (ap (λ (n : ℕ). filter (is_flat from) (take n methods)) span)
-    ∙ filter_far (is_flat from) methods at (next - at) d (omega arith) (λ k ge lt. none k ge (omega arith)) where
-      none : (k : ℕ) → at ≤ k → k < next → is_flat from (get_or methods k d) ≡ false
+    sym (ap (λ (n : ℕ). filter (is_flat from tail) (take n methods)) span)
+    ∙ filter_far (is_flat from tail) methods at (next - at) d (omega arith) (λ k ge lt. none k ge (omega arith)) where
+      none : (k : ℕ) → at ≤ k → k < next → is_flat from tail (get_or methods k d) ≡ false
       none k ge lt =
           let bound = searched.bound in
           let other = (get_or methods k d).address in
           let later : lower other (node ++ 47 ∷ rest) ≡ false =
           ap (lower other) (sym own) ∙ ascend_far methods at k d sorted.ascending ge (omega arith) in
           let found = below_too node rest other later (searched.before k d lt) in
-          ap (λ l. not (list_any is_slash (drop from l))) found.1 ∙ ap not (slash_left from node found.0 le)
+          ap (λ l. not (list_any is_slash (drop from l)) && ends_with nat_eq (drop from l) tail) found.1
+          ∙ ap (λ t. not t && ends_with nat_eq (drop from (node ++ 47 ∷ found.0)) tail) (slash_left from node found.0 le)
 
 -- the flat method at a place
-pub flat_hit : (methods : List Method) (at from id : ℕ) (ids more : List ℕ) (d : Method) → at < length methods
-    → list_any is_slash (drop from (get_or methods at d).address) ≡ false → id ≡ (get_or methods at d).id
-    → ids ≡ map (λ (method : Method). method.id) (filter (is_flat from) (take at methods)) → more ≡ ids ++ id ∷ []
-    → more ≡ map (λ (method : Method). method.id) (filter (is_flat from) (take (at + 1) methods))
-flat_hit methods at from id ids more d within none same so e =
-    e ∙ ap (λ l. l ++ id ∷ []) so ∙ ap (λ (n : ℕ). map (λ (method : Method). method.id) (filter (is_flat from) (take at methods)) ++ n ∷ []) same
-    ∙ sym (map-append (λ (method : Method). method.id) (filter (is_flat from) (take at methods)) (get_or methods at d ∷ []))
+pub flat_hit : (methods : List Method) (at from id : ℕ) (tail ids more : List ℕ) (d : Method) → at < length methods
+    → list_any is_slash (drop from (get_or methods at d).address) ≡ false → ends_with nat_eq (drop from (get_or methods at d).address) tail ≡ true
+    → id ≡ (get_or methods at d).id → ids ≡ map (λ (method : Method). method.id) (filter (is_flat from tail) (take at methods)) → more ≡ ids ++ id ∷ []
+    → more ≡ map (λ (method : Method). method.id) (filter (is_flat from tail) (take (at + 1) methods))
+flat_hit methods at from id tail ids more d within none ends same so e =
+    e ∙ ap (λ l. l ++ id ∷ []) so ∙ ap (λ (n : ℕ). map (λ (method : Method). method.id) (filter (is_flat from tail) (take at methods)) ++ n ∷ []) same
+    ∙ sym (map-append (λ (method : Method). method.id) (filter (is_flat from tail) (take at methods)) (get_or methods at d ∷ []))
     ∙ sym (ap (map (λ (method : Method). method.id))
-    (ap (λ (n : ℕ). filter (is_flat from) (take n methods)) (add-one at) ∙ ap (filter (is_flat from)) (take-suc methods at d within)
-    ∙ kept_push (is_flat from) (take at methods) (get_or methods at d) (ap not none)))
+    (ap (λ (n : ℕ). filter (is_flat from tail) (take n methods)) (add-one at) ∙ ap (filter (is_flat from tail)) (take-suc methods at d within)
+    ∙ kept_push (is_flat from tail) (take at methods) (get_or methods at d)
+    (ap (λ t. not t && ends_with nat_eq (drop from (get_or methods at d).address) tail) none ∙ ends)))
 
-pub flat_few : (methods : List Method) (at from : ℕ) (ids : List ℕ) → at ≤ length methods
-    → ids ≡ map (λ (method : Method). method.id) (filter (is_flat from) (take at methods)) → length ids ≤ at
-flat_few methods at from ids le e =
-    let few = filter_few (is_flat from) (take at methods) in
-    omega (arith, ap length e, length-map (filter (is_flat from) (take at methods)) (λ (method : Method). method.id), length-take-le at methods le)
+-- the method at a place that hasn't the tail at its end
+pub flat_miss : (methods : List Method) (at from : ℕ) (tail : List ℕ) (d : Method) → at < length methods
+    → ends_with nat_eq (drop from (get_or methods at d).address) tail ≡ false
+    → filter (is_flat from tail) (take (at + 1) methods) ≡ filter (is_flat from tail) (take at methods)
+flat_miss methods at from tail d within ends = filter_far (is_flat from tail) methods at 1 d (omega arith) (λ k ge lt. none k (omega arith)) where
+  none : (k : ℕ) → k ≡ at → is_flat from tail (get_or methods k d) ≡ false
+  none k e =
+      ap (λ (n : ℕ). is_flat from tail (get_or methods n d)) e
+      ∙ ap (λ t. not (list_any is_slash (drop from (get_or methods at d).address)) && t) ends
+      ∙ and-false (not (list_any is_slash (drop from (get_or methods at d).address)))
+
+pub flat_few : (methods : List Method) (at from : ℕ) (tail ids : List ℕ) → at ≤ length methods
+    → ids ≡ map (λ (method : Method). method.id) (filter (is_flat from tail) (take at methods)) → length ids ≤ at
+flat_few methods at from tail ids le e =
+    let few = filter_few (is_flat from tail) (take at methods) in
+    omega (arith, ap length e, length-map (filter (is_flat from tail) (take at methods)) (λ (method : Method). method.id), length-take-le at methods le)
 
 -- what stands before a special byte of a pattern begins with its slash
 pub front_slash : (pattern : List ℕ) (end : ℕ) → begins_with_slash pattern ≡ true → position is_special pattern ≡ Some end

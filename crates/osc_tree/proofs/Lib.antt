@@ -17,6 +17,7 @@ pub mod Alike
 pub mod Charges
 pub mod Walks
 mod Tables
+mod Tails
 pub mod Apart
 pub mod Neighbours
 pub mod Searches

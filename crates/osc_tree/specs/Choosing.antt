@@ -37,3 +37,8 @@ pub record IsPlainChoice (pattern front texts back : List ℕ) : Type 0 where
   pub plain : list_any is_odd texts ≡ false
   pub behind : list_any is_special back ≡ false
   pub order : AreInOrder back (slice_split is_comma texts)
+
+-- a text is a star and a tail without a special byte and a slash
+pub record IsPlainStar (text tail : List ℕ) : Type 0 where
+  pub is : text ≡ 42 ∷ tail
+  pub even : list_any is_odd tail ≡ false

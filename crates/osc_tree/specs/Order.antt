@@ -1,8 +1,8 @@
 -- Inside the crate: the methods in ascending order of their addresses, and the places where they
 -- stand in the order of adding.
 use Rattle.std.specs.Prelude.{◌≡◌, ℕ, ◌≤◌, ◌<◌, Bool, true, false, nat_eq, nat_lt, get_or, ◌-◌, not}
-use Rattle.std.specs.Prelude.{if◌then◌else◌, List, [], length, take, drop, fold, All}
-use Rattle.std.specs.List.{list_any, starts_with}
+use Rattle.std.specs.Prelude.{◌&&◌, if◌then◌else◌, List, [], length, take, drop, fold, All}
+use Rattle.std.specs.List.{list_any, starts_with, ends_with}
 use Rattle.std.specs.Ordering.{is_lt, nat_cmp}
 use Rattle.std.specs.Cmp.Lexicographic.{slice_cmp}
 use Rattle.osc_pattern.specs.declared.limits.TheConstants.{MAX_NAMES}
@@ -44,9 +44,10 @@ is_before text method = is_lt (slice_cmp nat_cmp method.address text)
 abbrev pub begins_with : List ℕ → Method → Bool
 begins_with text method = starts_with nat_eq method.address text
 
--- whether the method's address has no slash from a byte on
-abbrev pub is_flat : ℕ → Method → Bool
-is_flat from method = not (list_any is_slash (drop from method.address))
+-- whether the method's address has no slash from a byte on, and ends with the tail after it
+abbrev pub is_flat : ℕ → List ℕ → Method → Bool
+is_flat from tail method = not (list_any is_slash (drop from method.address))
+    && ends_with nat_eq (drop from method.address) tail
 
 -- a search for the first method that isn't before a text: all below low are before it, and none
 -- from high on

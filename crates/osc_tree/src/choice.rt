@@ -50,7 +50,7 @@ pub(crate) fn find_choice<'a>(pattern: &'a [u8], end: usize) -> Option<PlainChoi
 }
 
 /// The place of the first byte that a name can't have.
-fn first_odd(texts: &[u8]) -> Option<usize>
+pub(crate) fn first_odd(texts: &[u8]) -> Option<usize>
     ensures { result ≡ position is_odd texts.now }
 {
     texts.iter().position(|byte| is_odd(*byte))

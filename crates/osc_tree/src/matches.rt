@@ -45,8 +45,9 @@ struct Outline {
 
 /// Fills the list with the ids of the methods that the pattern matches, in ascending order of the
 /// address. A pattern without special bytes is looked up; else only the methods that begin with its
-/// literal front are tried. Where a star is all that follows the front, no name is matched. A
-/// pattern with more parts than any method's address has names matches none.
+/// literal front are tried. Where a star and a plain end of the last part are all that follows the
+/// front, no name is matched. A pattern with more parts than any method's address has names matches
+/// none.
 #[inline(always)]
 pub(crate) fn find_ids<L: Ledger>(
     methods: &[Registered],

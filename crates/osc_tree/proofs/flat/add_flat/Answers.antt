@@ -1,8 +1,9 @@
-use Rattle.std.proofs.Common.{◌≡◌, ℕ, ◌≤◌, ◌++◌, ◌∷◌, [], true, length, take, drop, map, filter, All, sym, ap, subst, ◌∙◌, arith}
+use Rattle.std.proofs.Common.{◌≡◌, ℕ, ◌≤◌, ◌++◌, true, length, take, drop, map, filter, All, sym, ap, subst, ◌∙◌, arith}
 use Rattle.std.specs.List.{list_any}
 use Rattle.std.proofs.lemmas.List.{length-take-le, take-append-drop, take_rest}
 use Rattle.osc_pattern.specs.Methods.{Method}
 use Rattle.osc_pattern.specs.Patterns.{begins_with_slash, is_special}
+use Rattle.osc_tree.specs.Choosing.{IsPlainStar}
 use Rattle.osc_tree.specs.Order.{is_flat}
 use Rattle.osc_tree.specs.Views.{methods_at}
 use Rattle.osc_tree.proofs.Apart.{near_sorted}
@@ -40,13 +41,14 @@ returns-clause-ids c =
     let size : length text ≡ end = length-take-le end bytes (omega (arith, place.1, ap length value)) in
     let slash : begins_with_slash pattern ≡ true = subst (λ l. begins_with_slash l ≡ true) value c.bytes-text.ensures.lawful.slash in
     let same : text ≡ take end pattern = ap (take end) value in
-    let star : pattern ≡ text ++ 42 ∷ [] =
-    sym (take-append-drop end pattern)
-    ∙ ap (λ l. l ++ drop end pattern) (sym same)
-    ∙ ap (λ l. text ++ l) (ap (drop end) (sym value) ∙ sym (take_rest bytes end) ∙ c.is_star.ensures c.if-not-is_star.false) in
+    let whole : pattern ≡ text ++ drop (length text) pattern =
+    sym (take-append-drop end pattern) ∙ ap (λ l. l ++ drop end pattern) (sym same) ∙ ap (λ (n : ℕ). text ++ drop n pattern) (sym size) in
+    let behind : IsPlainStar (drop (length text) pattern) c.in-Some.tail.now =
+    subst (λ l. IsPlainStar l c.in-Some.tail.now) (take_rest bytes end ∙ ap (drop end) value ∙ ap (λ (n : ℕ). drop n pattern) (sym size))
+    c.in-Some.ensures in
     c.add_near.ensures.ids
-    ∙ ap (λ (n : ℕ). map (λ (method : Method). method.id) (filter (is_flat n) ms)) (sym size)
-    ∙ flat_ids pattern text c.args.methods.now c.args.places.now c.beginning_with-near.result.now c.requires.list c.requires.order slash
+    ∙ ap (λ (n : ℕ). map (λ (method : Method). method.id) (filter (is_flat n c.in-Some.tail.now) ms)) (sym size)
+    ∙ flat_ids pattern text c.in-Some.tail.now c.args.methods.now c.args.places.now c.beginning_with-near.result.now c.requires.list c.requires.order slash
     (same ∙ front_found pattern end c.requires.special)
     (subst (λ l. begins_with_slash l ≡ true) (sym same) (front_slash pattern end slash c.requires.special))
-    (ap (list_any is_special) same ∙ plain_front pattern end c.requires.special) star c.beginning_with-near.ensures.those
+    (ap (list_any is_special) same ∙ plain_front pattern end c.requires.special) behind whole c.beginning_with-near.ensures.those

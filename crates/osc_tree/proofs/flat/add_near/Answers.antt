@@ -7,6 +7,6 @@ use Rattle.osc_tree.proofs.flat.add_near.Goals as goal
 pub returns-clause-len : goal.returns-clause-len
 returns-clause-len c =
     let long = methods_at-length c.args.methods.now c.args.near.now in
-    let few = flat_few (methods_at c.args.methods.now c.args.near.now) c.loop-at.at c.args.from c.loop-at.ids.items
+    let few = flat_few (methods_at c.args.methods.now c.args.near.now) c.loop-at.at c.args.flat.now.from c.args.flat.now.tail.now c.loop-at.ids.items
     (omega (arith, c.loop-at.invariant.bound)) c.loop-at.invariant.found in
     omega (arith, c.loop-at.invariant.bound)

@@ -7,7 +7,7 @@ use Rattle.osc_tree.proofs.flat.add_near.Given as goal
 abbrev pub invariant-loop-at : goal.invariant-loop-at
 invariant-loop-at l = record {
   bound : l.at ≤ length l.near;
-  found : l.ids.items ≡ map (λ (method : Method). method.id) (filter (is_flat l.from) (take l.at (methods_at l.methods l.near)));
+  found : l.ids.items ≡ map (λ (method : Method). method.id) (filter (is_flat l.flat.from l.flat.tail.now) (take l.at (methods_at l.methods l.near)));
   capacity : vec_capacity l.initial.ids ≤ vec_capacity l.ids;
 }
 
