@@ -203,12 +203,24 @@ fn the_matching_methods_stand_in_the_order_of_their_bytes(rt: HostRuntime) -> Re
 }
 
 /// Methods of several nodes, some with the same name below another, and one two nodes deep.
-const NODES: [&[u8]; 7] = [
-    b"/a/m", b"/a/x", b"/b/k/x", b"/b/x", b"/c/a", b"/cc/x", b"/cc0/x",
+const NODES: [&[u8]; 12] = [
+    b"/a/m",
+    b"/a/x",
+    b"/b/k/x",
+    b"/b/x",
+    b"/c/a",
+    b"/cc/x",
+    b"/cc0/x",
+    b"/daa",
+    b"/dd/a",
+    b"/dd/aa",
+    b"/dd/abbc",
+    b"/dd/abc",
 ];
 
-/// Patterns with plain parts after a part that isn't, and one with a node that doesn't match before others.
-const FOUND_BELOW: [(&[u8], &[u32]); 8] = [
+/// Patterns with plain parts after a part that isn't, one with a node that doesn't match before
+/// others, and some with one star and a plain tail.
+const FOUND_BELOW: [(&[u8], &[u32]); 19] = [
     (b"/*/x", &[1, 3, 5, 6]),
     (b"/?/x", &[1, 3]),
     (b"/[ac]*/x", &[1, 5, 6]),
@@ -217,6 +229,19 @@ const FOUND_BELOW: [(&[u8], &[u32]); 8] = [
     (b"/*/y", &[]),
     (b"/[!a]/?", &[3, 4]),
     (b"/?/*", &[0, 1, 3, 4]),
+    (b"/*aa", &[7]),
+    (b"/d*a", &[7]),
+    // No name ends with the tail before its slash.
+    (b"/*x", &[]),
+    (b"/c*a", &[]),
+    (b"/dd/*aa", &[9]),
+    (b"/dd/*bc", &[10, 11]),
+    (b"/dd/a*c", &[10, 11]),
+    (b"/dd/*", &[8, 9, 10, 11]),
+    // The star's text begins after the front, and ends before the tail.
+    (b"/dd/a*a", &[9]),
+    (b"/dd/ab*bc", &[10]),
+    (b"/dd/abc*bc", &[]),
 ];
 
 fn match_below<L: Ledger, R: Abort>(rt: &R, alloc: Global, blank: Blank) -> Result<(), Fail>
@@ -225,12 +250,12 @@ fn match_below<L: Ledger, R: Abort>(rt: &R, alloc: Global, blank: Blank) -> Resu
     requires some { 0 < blank.parts }
 {
     let mut steps: Steps<L> = Steps::new(blank);
-    let mut tree = Tree::open(alloc, 7, 13)?;
+    let mut tree = Tree::open(alloc, 12, 19)?;
     let mut next = 0;
     for text in NODES {
         play(alloc, &mut tree, &mut next, Event::Add(text))?;
     }
-    let mut hits = Hits::open(alloc, 7)?;
+    let mut hits = Hits::open(alloc, 12)?;
     for (pattern, ids) in FOUND_BELOW {
         finds(rt, &tree, pattern, ids, &mut hits, &mut steps)?;
     }
@@ -238,6 +263,6 @@ fn match_below<L: Ledger, R: Abort>(rt: &R, alloc: Global, blank: Blank) -> Resu
 }
 
 #[test]
-fn plain_parts_after_names_that_match_make_one_address(rt: HostRuntime) -> Result<(), Fail> {
+fn methods_below_nodes_are_found_by_their_last_parts(rt: HostRuntime) -> Result<(), Fail> {
     match_below::<Brand, HostRuntime>(&rt, rt.alloc(), Blank::new(1))
 }

@@ -83,7 +83,8 @@ both_filters p q b (method ∷ methods) same = go (b method) refl (both_filters 
 -- the flat ones of those that begin with a text are those that the text and a star match
 pub flat_ids : (pattern text tail : List ℕ) (registered : List Registered) (places near : List ℕ) → IsMethodList (methods_of registered)
     → IsOrder registered places → begins_with_slash pattern ≡ true → text ≡ before_first is_special pattern → begins_with_slash text ≡ true
-    → list_any is_special text ≡ false → IsPlainStar (drop (length text) pattern) tail → pattern ≡ text ++ drop (length text) pattern → methods_at registered near ≡ filter (begins_with text) (methods_at registered places)
+    → list_any is_special text ≡ false → IsPlainStar (drop (length text) pattern) tail
+    → pattern ≡ text ++ drop (length text) pattern → methods_at registered near ≡ filter (begins_with text) (methods_at registered places)
     → map (λ (method : Method). method.id) (filter (is_flat (length text) tail) (methods_at registered near)) ≡ matching_ids pattern (methods_of registered)
 flat_ids pattern text tail registered places near list order slash front first none behind whole those =
     let is : pattern ≡ text ++ 42 ∷ tail = whole ∙ ap (λ l. text ++ l) behind.is in

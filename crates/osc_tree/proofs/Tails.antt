@@ -1,5 +1,5 @@
 -- A star and a plain tail match the names that end with the tail.
-use Rattle.std.proofs.Common.{◌≡◌, ℕ, suc, ◌-◌, ◌≤◌, Bool, true, false, not, cond, ◌&&◌, ◌||◌, List, [], ◌∷◌, length, drop}
+use Rattle.std.proofs.Common.{◌≡◌, ℕ, suc, ◌-◌, Bool, true, false, not, cond, ◌&&◌, ◌||◌, List, [], ◌∷◌, length, drop}
 use Rattle.std.proofs.Common.{nat_eq, nat_lt, refl, sym, ap, ◌∙◌, arith}
 use Rattle.std.specs.List.{list_any, slice_split, onto_first, ends_with}
 use Rattle.std.specs.Cmp.Lexicographic.{pointwise, unequal}
@@ -54,15 +54,13 @@ tail_left : (tail name : List ℕ) → list_any (pointwise nat_eq tail) (rests n
 tail_left [] [] = refl
 tail_left (t ∷ tail) [] = let at : 0 - suc (length tail) ≡ 0 = omega arith in sym (ap (λ n. pointwise nat_eq (t ∷ tail) (drop n [])) at)
 tail_left tail (x ∷ name) = go (nat_lt (length name) (length tail)) refl (tail_left tail name) where
-  short : length tail ≤ length name → (pointwise nat_eq tail (x ∷ name) || list_any (pointwise nat_eq tail) (rests name)) ≡ list_any (pointwise nat_eq tail) (rests name)
-  short le = ap (λ t. t || list_any (pointwise nat_eq tail) (rests name)) (unequal nat_eq tail (x ∷ name) (λ e. absurd (omega arith)))
-
   go : (t : Bool) → nat_lt (length name) (length tail) ≡ t → list_any (pointwise nat_eq tail) (rests name) ≡ ends_with nat_eq name tail
       → (pointwise nat_eq tail (x ∷ name) || list_any (pointwise nat_eq tail) (rests name)) ≡ ends_with nat_eq (x ∷ name) tail
   go false is more =
       let le = ltb-false (length name) (length tail) is in
       let at : suc (length name) - length tail ≡ suc (length name - length tail) = omega arith in
-      short le ∙ more ∙ sym (ap (λ n. pointwise nat_eq tail (drop n (x ∷ name))) at)
+      ap (λ t. t || list_any (pointwise nat_eq tail) (rests name)) (unequal nat_eq tail (x ∷ name) (λ e. absurd (omega arith)))
+      ∙ more ∙ sym (ap (λ n. pointwise nat_eq tail (drop n (x ∷ name))) at)
   go true is more =
       let lt = ltb-true (length name) (length tail) is in
       let here : length name - length tail ≡ 0 = omega arith in

@@ -110,12 +110,14 @@ fn add_one(
         (methods_at methods.now near.now) }
     requires at { at < length near.now }
     requires found { ids.old.items ≡ map (λ method. method.id)
-        (filter (is_flat flat.now.from flat.now.tail.now) (take at (methods_at methods.now near.now))) }
+        (filter (is_flat flat.now.from flat.now.tail.now)
+        (take at (methods_at methods.now near.now))) }
     requires room { length near.now ≤ vec_capacity ids.old }
     ensures on { at < result.0 }
     ensures bound { result.0 ≤ length near.now }
     ensures found { ids.new.items ≡ map (λ method. method.id)
-        (filter (is_flat flat.now.from flat.now.tail.now) (take result.0 (methods_at methods.now near.now))) }
+        (filter (is_flat flat.now.from flat.now.tail.now)
+        (take result.0 (methods_at methods.now near.now))) }
     ensures capacity { vec_capacity ids.old ≤ vec_capacity ids.new }
 {
     let method = &methods[near[at] as usize];

@@ -165,8 +165,8 @@ impl Tree {
     /// Steps are counted as in `Pattern::matches_part`. For each node of the methods they are at
     /// most 64 for each byte of the part at the node's depth and for its end, and none for a node
     /// deeper than the pattern. A part that is a star alone takes none, nor does a pattern that is
-    /// plain but for one star in its last part. To find and to read the parts, once for all methods,
-    /// and to search takes none.
+    /// plain but for one star in its last part. To find and to read the parts, once for all
+    /// methods, and to search takes none.
     #[inline(always)]
     pub fn matches<L: Ledger>(&self, pattern: &Pattern<'_>, hits: &mut Hits, steps: &mut Steps<L>)
         requires { self.now.method_limit ≤ hits.old.limit }

@@ -33,8 +33,8 @@ slice_bounds-rest-start c =
 pub add_id-requires : goal.add_id-requires
 add_id-requires c =
     let ms = methods_at c.args.methods.now c.args.near.now in
-    let few = flat_few ms c.args.at c.args.flat.now.from c.args.flat.now.tail.now c.args.ids.now.items (omega (arith, methods_at-length c.args.methods.now c.args.near.now, c.requires.at))
-    c.requires.found in
+    let few = flat_few ms c.args.at c.args.flat.now.from c.args.flat.now.tail.now c.args.ids.now.items
+    (omega (arith, methods_at-length c.args.methods.now c.args.near.now, c.requires.at)) c.requires.found in
     omega (arith, c.requires.room, c.requires.at)
 
 pub returns-else-not-has_tail-clause-found : goal.returns-else-not-has_tail-clause-found
@@ -95,7 +95,8 @@ returns-in-Some-clause-on c =
     let node = node_is address c.args.flat.now.from c.in-Some.size le
     (ap (position is_slash) (sym (take_rest address c.args.flat.now.from)) ∙ sym c.first_slash.ensures ∙ c.in-Some.is) in
     ahead_of ms c.args.at c.count_before_near-next.result d (take (c.args.flat.now.from + c.in-Some.size) address ++ 48 ∷ []) within
-    (node_ahead (get_or ms c.args.at d).address (take (c.args.flat.now.from + c.in-Some.size) address) _ (own ∙ node.0)) c.count_before_near-next.ensures.searched
+    (node_ahead (get_or ms c.args.at d).address (take (c.args.flat.now.from + c.in-Some.size) address) _ (own ∙ node.0))
+    c.count_before_near-next.ensures.searched
 
 pub returns-in-Some-clause-found : goal.returns-in-Some-clause-found
 returns-in-Some-clause-found c =
@@ -109,8 +110,10 @@ returns-in-Some-clause-found c =
     let node = node_is address c.args.flat.now.from c.in-Some.size le
     (ap (position is_slash) (sym (take_rest address c.args.flat.now.from)) ∙ sym c.first_slash.ensures ∙ c.in-Some.is) in
     let on = ahead_of ms c.args.at c.count_before_near-next.result d (take (c.args.flat.now.from + c.in-Some.size) address ++ 48 ∷ []) within
-    (node_ahead (get_or ms c.args.at d).address (take (c.args.flat.now.from + c.in-Some.size) address) _ (own ∙ node.0)) c.count_before_near-next.ensures.searched in
+    (node_ahead (get_or ms c.args.at d).address (take (c.args.flat.now.from + c.in-Some.size) address) _ (own ∙ node.0))
+    c.count_before_near-next.ensures.searched in
     c.requires.found
     ∙ ap (map (λ (method : Method). method.id))
-    (sym (node_passed ms c.args.at c.count_before_near-next.result c.args.flat.now.from c.args.flat.now.tail.now (take (c.args.flat.now.from + c.in-Some.size) address) _ d c.requires.sorted within
+    (sym (node_passed ms c.args.at c.count_before_near-next.result c.args.flat.now.from c.args.flat.now.tail.now
+    (take (c.args.flat.now.from + c.in-Some.size) address) _ d c.requires.sorted within
     node.1 (own ∙ node.0) c.count_before_near-next.ensures.searched on))
