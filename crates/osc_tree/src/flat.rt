@@ -1,5 +1,5 @@
 // The methods that a pattern matches which is plain but for one star in its last part.
-ghost use Rattle.std.specs.Prelude.{◌≡◌, ◌≤◌, ◌<◌, ◌∷◌, [], length, take, filter, map, position};
+ghost use Rattle.std.specs.Prelude.{◌≡◌, ◌≤◌, ◌<◌, [], length, take, filter, map, position};
 ghost use Rattle.std.specs.Prelude.{All, Some, IfSome, MatchBool, nat_eq, vec_len, vec_capacity};
 ghost use Rattle.std.specs.List.{ends_with};
 ghost use Rattle.osc_pattern.specs.Methods.{IsMethodList};
