@@ -277,11 +277,9 @@ fn play_lines<
     }
     match command {
         LiveCommand::Lanes { caps, watch } => {
+            let growth = Growth::Written(0);
             match stage(venue, live_limits(caps), watch, lines, bank) {
-                Ok(played) => {
-                    let growth = Growth::Written(0);
-                    (end(alloc, played, growth, None, out, rec), links)
-                }
+                Ok(played) => (end(alloc, played, growth, None, out, rec), links),
                 Err(_) => (unplayed(alloc, NO_MEMORY, Vec::new(alloc)), links),
             }
         }
@@ -302,9 +300,7 @@ fn play_lines<
                 },
             };
             match stage_links(venue, host, clock, rec) {
-                Ok((played, links, growth)) => {
-                    (end(alloc, played, growth, None, out, rec), links)
-                }
+                Ok((played, links, growth)) => (end(alloc, played, growth, None, out, rec), links),
                 Err(_) => (unplayed(alloc, NO_MEMORY, Vec::new(alloc)), Vec::new(alloc)),
             }
         }
