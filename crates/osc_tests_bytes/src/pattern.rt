@@ -23,7 +23,7 @@ fn pattern_of(bytes: &[u8]) -> Option<Pattern<'_>> {
     Pattern::check(bytes).ok()
 }
 
-const MATCHES: [(&[u8], &[u8], bool); 23] = [
+const MATCHES: [(&[u8], &[u8], bool); 26] = [
     (b"/{foo,bar}/[!a-c]?*", b"/foo/dx", true),
     (b"/{foo,bar}/[!a-c]?*", b"/bar/zzz", true),
     (b"/{foo,bar}/[!a-c]?*", b"/bar/ab", false),
@@ -34,6 +34,10 @@ const MATCHES: [(&[u8], &[u8], bool); 23] = [
     (b"/[a-c-e]", b"/d", false),
     (b"/x[]", b"/x", false),
     (b"/[!]", b"/q", true),
+    // A `!` that isn't first is a byte of the list.
+    (b"/[a!b]", b"/!", true),
+    (b"/[a!b]", b"/b", true),
+    (b"/[a!b]", b"/c", false),
     (b"/{}a", b"/a", true),
     (b"/a*", b"/a/b", false),
     (b"/a/", b"/a", false),
