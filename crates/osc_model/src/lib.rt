@@ -7,4 +7,4 @@ pub mod laws;
 mod need;
 
 pub use late::Late;
-pub use need::{Need, keeps, need_of};
+pub use need::{Need, is_late, keeps, need_of};

@@ -22,7 +22,7 @@ pub fn keeps(late: Late, clock: u64, unit: &Unit<'_>) -> bool
 {
     match late {
         Late::Deliver => true,
-        Late::Discard => !is_late(clock, unit),
+        Late::Discard => !is_late(clock, unit.tag()),
     }
 }
 
@@ -49,11 +49,11 @@ pub fn need_of(late: Late, clock: u64, packet: &Packet<'_>) -> Need
     need
 }
 
-/// Whether a unit is late at a clock.
-fn is_late(clock: u64, unit: &Unit<'_>) -> bool
-    ensures { result ≡ is_late clock unit.now }
+/// Whether a unit with this effective tag is late at a clock.
+pub fn is_late(clock: u64, tag: u64) -> bool
+    ensures { result ≡ is_late clock (record { tag = tag; messages = [] }) }
 {
-    unit.tag() != 1 && unit.tag() < clock
+    tag != 1 && tag < clock
 }
 
 /// What is needed where a unit joins that may be kept.

@@ -2,6 +2,7 @@
 ghost use Rattle.std.specs.Prelude.{◌≡◌, IfOk};
 
 use crate::kept_message::KeptMessage;
+use osc_model::is_late;
 use osc_packet::{Unit, UnitMessages};
 use std::alloc::{AllocError, Global};
 use std::marker::Model;
@@ -98,7 +99,7 @@ impl Waiting {
     pub fn is_late(&self) -> bool
         ensures { result ≡ step.is_late (due_of self.now) self.now.2.unit }
     {
-        self.tag != 1 && self.tag < self.due
+        is_late(self.due, self.tag)
     }
 
     /// Whether it is taken before the other.
