@@ -104,7 +104,24 @@ done <<'PARTS'
 - a 64990 -
 PARTS
 
+# The digits of a bundle of so many messages, each with a text of three letters of its own between a front and an end.
+others() { # FRONT END COUNT
+    awk -v front="$1" -v end="$2" -v count="$3" 'BEGIN {
+        for (k = 32; k < 127; k++) code[sprintf("%c", k)] = sprintf("%02x", k)
+        letters = "abcdefghijklmnopqrstuvwxyzABCDEFGHIJKLMNOPQRSTUVWXYZ"
+        printf "2362756e646c65000000000000000001"
+        for (k = 0; k < count; k++) {
+            text = front substr(letters, int(k / 2704) + 1, 1) substr(letters, int(k / 52) % 52 + 1, 1) substr(letters, k % 52 + 1, 1) end
+            size = length(text) + 4 - length(text) % 4
+            printf "%08x", size
+            for (at = 1; at <= size; at++) printf "%s", at <= length(text) ? code[substr(text, at, 1)] : "00"
+        }
+    }'
+}
+
 printf '/*/x' > "$work/star"
 for layout in wide deep; do
     echo "$layout: a bundle of 5,457 messages /*/x takes $(send $layout "$(bundle "$(message "$work/star")" 5457)")"
+    echo "$layout: one of 5,457 messages /*TEXT takes $(send $layout "$(others '/*' '' 5457)")"
+    echo "$layout: one of 5,457 messages /*TEXT? takes $(send $layout "$(others '/*' '?' 5457)")"
 done
