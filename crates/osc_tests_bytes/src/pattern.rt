@@ -1,3 +1,4 @@
+// Rows of the matcher: patterns, addresses, and the faults of both.
 ghost use Rattle.std.specs.Prelude.{◌≡◌, ◌<◌};
 
 use osc_pattern::{Address, AddressFault, MAX_PATTERN, Pattern, PatternFault, Steps};
