@@ -23,9 +23,9 @@ use Rattle.osc_tree.proofs.Advances.{begun_rest}
 use Rattle.osc_tree.proofs.Charges.{begun_between}
 use Rattle.osc_tree.proofs.Fronts.{filter_passes, front_some}
 use Rattle.osc_tree.proofs.InOrder.{found_is}
-use Rattle.osc_tree.proofs.Lists.{filter_few}
-use Rattle.osc_tree.proofs.Literals.{own_beginning, plain_same}
-use Rattle.osc_tree.proofs.Onward.{lower_prefix}
+use Rattle.osc_tree.proofs.Lists.{filter_few, position-some}
+use Rattle.osc_tree.proofs.Literals.{own_beginning, plain_same, front_found}
+use Rattle.osc_tree.proofs.Onward.{lower_prefix, plain_front}
 use Rattle.osc_tree.proofs.Overs.{slash_first}
 use Rattle.osc_tree.proofs.Ranges.{lower, lower_order, lower_more, ascend_far, searched_none, searched_up}
 use Rattle.osc_tree.proofs.Tails.{nothing_alone, tail_name}
@@ -104,6 +104,14 @@ begun_long text methods near e =
       long address begun =
           let tail = begun_rest address text begun in
           omega (arith, ap length tail.1, length-append text tail.0)
+
+-- those that begin with what stands before a pattern's first special byte are as long as that
+pub front_long : (pattern bytes : List ℕ) (end : ℕ) (methods near : List Method) → bytes ≡ pattern → position is_special pattern ≡ Some end
+    → near ≡ filter (begins_with (take end bytes)) methods → All (λ method. end ≤ length method.address) near
+front_long pattern bytes end methods near value special those =
+    let place = position-some is_special pattern end special in
+    let size : length (take end bytes) ≡ end = length-take-le end bytes (omega (arith, place.1, ap length value)) in
+    subst (λ (n : ℕ). All (λ (method : Method). n ≤ length method.address) near) size (begun_long (take end bytes) methods near those)
 
 -- the node whose name ends at a slash
 pub node_is : (address : List ℕ) (from size : ℕ) → from ≤ length address → position is_slash (drop from address) ≡ Some size
@@ -210,3 +218,24 @@ pub front_slash : (pattern : List ℕ) (end : ℕ) → begins_with_slash pattern
 front_slash [] end slash e = absurd (cc)
 front_slash (x ∷ pattern) zero slash e = absurd (omega (arith, front_some (x ∷ pattern) zero slash e))
 front_slash (x ∷ pattern) (suc end) slash e = slash
+
+-- a pattern's first special byte is a star with a plain tail: what is flat among those that begin with what stands before it
+pub star_ids : (pattern bytes tail : List ℕ) (end : ℕ) (registered : List Registered) (places near : List ℕ) → IsMethodList (methods_of registered)
+    → IsOrder registered places → begins_with_slash bytes ≡ true → bytes ≡ pattern → position is_special pattern ≡ Some end
+    → IsPlainStar (drop end bytes) tail → methods_at registered near ≡ filter (begins_with (take end bytes)) (methods_at registered places)
+    → map (λ (method : Method). method.id) (filter (is_flat end tail) (methods_at registered near)) ≡ matching_ids pattern (methods_of registered)
+star_ids pattern bytes tail end registered places near list order begun value special star those =
+    let text = take end bytes in
+    let ms = methods_at registered near in
+    let place = position-some is_special pattern end special in
+    let size : length text ≡ end = length-take-le end bytes (omega (arith, place.1, ap length value)) in
+    let slash : begins_with_slash pattern ≡ true = subst (λ l. begins_with_slash l ≡ true) value begun in
+    let same : text ≡ take end pattern = ap (take end) value in
+    let whole : pattern ≡ text ++ drop (length text) pattern =
+    sym (take-append-drop end pattern) ∙ ap (λ l. l ++ drop end pattern) (sym same) ∙ ap (λ (n : ℕ). text ++ drop n pattern) (sym size) in
+    let after : IsPlainStar (drop (length text) pattern) tail =
+    subst (λ l. IsPlainStar l tail) (ap (drop end) value ∙ ap (λ (n : ℕ). drop n pattern) (sym size)) star in
+    ap (λ (n : ℕ). map (λ (method : Method). method.id) (filter (is_flat n tail) ms)) (sym size)
+    ∙ flat_ids pattern text tail registered places near list order slash (same ∙ front_found pattern end special)
+    (subst (λ l. begins_with_slash l ≡ true) (sym same) (front_slash pattern end slash special))
+    (ap (list_any is_special) same ∙ plain_front pattern end special) after whole those

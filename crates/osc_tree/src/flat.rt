@@ -51,7 +51,13 @@ pub(crate) fn add_flat(
         return false;
     };
     let near = beginning_with(methods, places, &text[..end]);
-    add_near(methods, near, &Flat { from: end, tail }, ids);
+    let from = end;
+    if tail.is_empty() {
+        // (a literal, so that the compiler drops the test of each name's end)
+        add_near(methods, near, &Flat { from, tail: &[] }, ids);
+    } else {
+        add_near(methods, near, &Flat { from, tail }, ids);
+    }
     true
 }
 
@@ -71,6 +77,7 @@ fn after_star(text: &[u8]) -> Option<&[u8]>
 
 /// Adds the ids of those of the methods at these places that have no slash from a byte on, and end
 /// with the tail after it.
+#[inline(always)]
 fn add_near(methods: &[Registered], near: &[u32], flat: &Flat<'_>, ids: &mut Vec<u32>)
     requires within { All (λ place. place < length methods.now) near.now }
     requires sorted { IsSorted (methods_at methods.now near.now) }
