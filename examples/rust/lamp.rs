@@ -47,9 +47,7 @@ fn run(link: &UdpSocket) -> Result<(), Refused> {
         blocks: 256,
         methods: 16,
         nodes: 32,
-        callers: 1,
-        recording: 1 << 24,
-        discards_late: false,
+        ..Limits::default()
     })?;
     let mut names = HashMap::new();
     for address in ["/lamp/level", "/lamp/on", "/lamp/unplug"] {

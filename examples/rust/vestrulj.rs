@@ -21,6 +21,21 @@ pub struct Limits {
     pub discards_late: bool,
 }
 
+impl Default for Limits {
+    /// As much as most shows need, for one caller, with 16 MiB of recording.
+    fn default() -> Limits {
+        Limits {
+            units: 1024,
+            blocks: 4096,
+            methods: 1024,
+            nodes: 4096,
+            callers: 1,
+            recording: 1 << 24,
+            discards_late: false,
+        }
+    }
+}
+
 /// What a call answered, with the numbers of `osc_answer` in the header.
 #[repr(C)]
 #[derive(Clone, Copy, Debug, PartialEq, Eq)]
@@ -285,7 +300,7 @@ mod tests {
 
     #[test]
     fn a_server_hears_and_records() {
-        let limits = Limits { units: 4, blocks: 8, methods: 2, nodes: 4, callers: 1, recording: 4096, discards_late: false };
+        let limits = Limits { units: 4, blocks: 8, methods: 2, nodes: 4, recording: 4096, ..Limits::default() };
         let mut server = Server::open(&limits).unwrap();
         let id = server.add("/light/dim").unwrap();
         assert!(server.add("/light/dim").is_err());

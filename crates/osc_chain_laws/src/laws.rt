@@ -4,7 +4,7 @@ ghost use Rattle.std.specs.Prelude.{◌≡◌, ◌≤◌, ◌+◌, ◌*◌, ℕ,
 ghost use Rattle.osc_atoms.specs.Atoms.{AreBytes};
 ghost use Rattle.osc_model.specs.Limits.{Limits};
 ghost use Rattle.osc_model.specs.State.{opening};
-ghost use Rattle.osc_model.specs.declared.late.Late.TheVariants.{Deliver};
+ghost use Rattle.osc_model.specs.Samples.{usual_limits};
 ghost use Rattle.osc_model.specs.Events.{Entry, tick, ticked};
 ghost use Rattle.osc_model.specs.History.{Legal, after, invocations};
 ghost use Rattle.osc_core.specs.Standing.{history_in};
@@ -204,15 +204,7 @@ pub fn examples()
         ∷ record { number = 3; lane = 0; act = Add (codes "/b") } ∷ [])
         ≡ codes "/a" ∷ codes "/b" ∷ [] }
     ensures since { later_events
-        (record {
-          units = 4096;
-          blocks = 16384;
-          methods = 1024;
-          nodes = 4096;
-          callers = 2;
-          recording = 67108864;
-          late = Deliver;
-        })
+        (usual_limits 2)
         (record { caller = 0; event = tick 5; answer = ticked } ∷ [])
         (record {
           room = 1048576;

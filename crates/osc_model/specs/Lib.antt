@@ -1,4 +1,5 @@
 pub mod Limits
+pub mod Samples
 pub mod State
 pub mod Counts
 pub mod Enrolled

@@ -12,7 +12,8 @@ ghost use Rattle.osc_queue.specs.Timed.{unit_of, enter, IsInOrder, IsNewUnit};
 ghost use Rattle.osc_tree.specs.Registry.{Registry, IsLawful as IsLawfulRegistry, IsNewId, without};
 ghost use Rattle.osc_tree.specs.Registry.{address_by_id};
 ghost use Rattle.osc_tree.specs.Adding.{IsAddable, add_refusal};
-ghost use Rattle.osc_model.specs.Limits.{Limits, limits_of, AreInRange};
+ghost use Rattle.osc_model.specs.Limits.{Limits, AreInRange};
+ghost use Rattle.osc_model.specs.Samples.{least_limits};
 ghost use Rattle.osc_model.specs.State.{State, Queued, AreNumbered, opening};
 ghost use Rattle.osc_model.specs.Counts.{queued_blocks, free_bytes};
 ghost use Rattle.osc_model.specs.Recordings.{IsRecordable, entry_size, record_text};
@@ -354,25 +355,19 @@ pub fn callers_are_counted()
 /// The clock never goes back, and stands where a tick before it left it; callers are numbered up to their limit; a
 /// message alone is queued where there is a place for it and blocks for its bytes, of which 64 take two.
 pub fn examples()
-    ensures early { (step (opening
-        (limits_of 1 1 1 1 1 200 Deliver))
+    ensures early { (step (opening (least_limits 1 200))
         (tick 0)).answer ≡ clock_back 1 }
-    ensures on { (step (opening
-        (limits_of 1 1 1 1 1 200 Deliver))
+    ensures on { (step (opening (least_limits 1 200))
         (tick 5)).answer ≡ ticked }
-    ensures full { (step (opening
-        (limits_of 1 1 1 1 1 200 Deliver))
+    ensures full { (step (opening (least_limits 1 200))
         enrol).answer ≡ callers_full }
-    ensures no_place { (step (step (opening
-        (limits_of 1 1 1 1 1 200 Deliver))
+    ensures no_place { (step (step (opening (least_limits 1 200))
         (submit (codes "/a" ++ 0 ∷ 0 ∷ []))).state (submit (codes "/a" ++ 0 ∷ 0 ∷ []))).answer
         ≡ units_full (record { need = 1; free = 0 }) }
-    ensures no_block { (step (opening
-        (limits_of 1 1 1 1 1 200 Deliver))
+    ensures no_block { (step (opening (least_limits 1 200))
         (submit (codes "/a" ++ 0 ∷ 0 ∷ codes ",b"
         ++ 0 ∷ 0 ∷ 0 ∷ 0 ∷ 0 ∷ 52 ∷ replicate 52 0))).answer
         ≡ pool_full (record { need = 2; free = 1 }) }
-    ensures second { (step (opening
-        (limits_of 1 1 1 1 2 200 Deliver))
+    ensures second { (step (opening (least_limits 2 200))
         enrol).answer ≡ number 1 }
 {}

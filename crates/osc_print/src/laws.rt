@@ -5,8 +5,8 @@ ghost use Rattle.osc_tree.specs.Adding.{nodes_full};
 ghost use Rattle.osc_model.specs.Events.{enrol, add, remove, submit, tick, release, number};
 ghost use Rattle.osc_model.specs.Events.{callers_full, queued, units_full, pool_full, added};
 ghost use Rattle.osc_model.specs.Events.{refused, removed, not_there, ticked, clock_back, released};
-ghost use Rattle.osc_model.specs.declared.late.Late.TheVariants.{Deliver, Discard};
-ghost use Rattle.osc_model.specs.Limits.{limits_of};
+ghost use Rattle.osc_model.specs.declared.late.Late.TheVariants.{Discard};
+ghost use Rattle.osc_model.specs.Samples.{least_limits, usual_limits};
 ghost use Rattle.osc_print.specs.Entries.{event_line, invocation_text};
 ghost use Rattle.osc_print.specs.Lines.{fault_text, link_fault_text, list_text, method_text};
 ghost use Rattle.osc_print.specs.Dates.{date_text};
@@ -89,10 +89,10 @@ pub fn examples()
     ensures last_second { date_text 4_294_967_295 ≡ codes "2036-02-07T06:28:15Z" }
     ensures unix_epoch { date_text 2_208_988_800 ≡ codes "1970-01-01T00:00:00Z" }
     ensures leap_day { date_text 3_160_857_599 ≡ codes "2000-02-29T23:59:59Z" }
-    ensures dump { dumped (limits_of 4096 16384 1024 4096 1 67_108_864 Deliver)
+    ensures dump { dumped (usual_limits 1)
         (record { caller = 0; event = tick 0x83aa_7e80_0000_0000; answer = ticked } ∷ [])
         ≡ codes "rec 2 4096 16384 1024 4096 1 67108864 deliver\n"
         ++ codes "60 tick 0 83aa7e8000000000 ticked 1970-01-01T00:00:00Z\n" }
-    ensures discards { dumped (limits_of 1 1 1 1 1 60 Discard) []
+    ensures discards { dumped (record (least_limits 1 60) { late = Discard }) []
         ≡ codes "rec 2 1 1 1 1 1 60 discard\n" }
 {}

@@ -2,7 +2,7 @@
 //! contracts are the laws.
 ghost use Rattle.std.specs.Prelude.{◌≡◌, ℕ, ◌%◌, ◌≤◌, List, [], ◌∷◌, ◌++◌, length, codes, Ok, Some};
 ghost use Rattle.osc_atoms.specs.Atoms.{AreBytes};
-ghost use Rattle.osc_model.specs.declared.late.Late.TheVariants.{Deliver};
+ghost use Rattle.osc_model.specs.Samples.{usual_limits};
 ghost use Rattle.osc_model.specs.Events.{Event, Answer, submit, queued, tick, ticked};
 ghost use Rattle.osc_model.specs.Limits.{AreInRange, Limits, header_size, max_recording};
 ghost use Rattle.osc_model.specs.Events.{Entry as Recorded};
@@ -75,15 +75,7 @@ pub fn whole_hits_are_their_bytes()
 /// A header and an entry, byte by byte.
 pub fn examples()
     ensures header { header_text
-        (record {
-          units = 4096;
-          blocks = 16384;
-          methods = 1024;
-          nodes = 4096;
-          callers = 1;
-          recording = 67108864;
-          late = Deliver;
-        })
+        (usual_limits 1)
         ≡ 0 ∷ 0 ∷ 0 ∷ 0x38 ∷ codes "/osc/rec" ++ 0 ∷ 0 ∷ 0 ∷ 0 ∷ codes ",iiiiiiii"
         ++ 0 ∷ 0 ∷ 0 ∷ 0 ∷ 0 ∷ 0 ∷ 2 ∷ 0 ∷ 0 ∷ 0x10 ∷ 0 ∷ 0 ∷ 0 ∷ 0x40 ∷ 0 ∷ 0 ∷ 0 ∷ 4 ∷ 0 ∷ 0
         ∷ 0 ∷ 0x10 ∷ 0 ∷ 0 ∷ 0 ∷ 0 ∷ 1 ∷ 4 ∷ 0 ∷ 0 ∷ 0 ∷ 0 ∷ 0 ∷ 0 ∷ 0 ∷ [] }
@@ -96,15 +88,7 @@ pub fn examples()
 /// A header and a submit of the first version, byte by byte.
 pub fn old_examples()
     ensures header { header_text_in First
-        (record {
-          units = 4096;
-          blocks = 16384;
-          methods = 1024;
-          nodes = 4096;
-          callers = 1;
-          recording = 67108864;
-          late = Deliver;
-        })
+        (usual_limits 1)
         ≡ 0 ∷ 0 ∷ 0 ∷ 0x34 ∷ codes "/osc/rec" ++ 0 ∷ 0 ∷ 0 ∷ 0 ∷ codes ",iiiiiii"
         ++ 0 ∷ 0 ∷ 0 ∷ 0 ∷ 0 ∷ 0 ∷ 0 ∷ 1 ∷ 0 ∷ 0 ∷ 0x10 ∷ 0 ∷ 0 ∷ 0 ∷ 0x40 ∷ 0 ∷ 0 ∷ 0 ∷ 4 ∷ 0 ∷ 0
         ∷ 0 ∷ 0x10 ∷ 0 ∷ 0 ∷ 0 ∷ 0 ∷ 1 ∷ 4 ∷ 0 ∷ 0 ∷ 0 ∷ [] }

@@ -2,8 +2,8 @@
 use Rattle.std.proofs.Common.{◌≡◌, ℕ, ◌≤◌, true, List, [], ◌∷◌, ◌++◌, refl, sym, ap, subst, ◌∙◌, arith}
 use Rattle.std.specs.List.{flat_map}
 use Rattle.osc_print.specs.Entries.{event_line, invocation_text}
-use Rattle.osc_model.specs.declared.late.Late.TheVariants.{Deliver}
-use Rattle.osc_model.specs.Limits.{Limits, limits_of, IsWithin}
+use Rattle.osc_model.specs.Limits.{Limits, IsWithin}
+use Rattle.osc_model.specs.Samples.{least_limits}
 use Rattle.osc_model.specs.State.{State, opening}
 use Rattle.osc_model.specs.Events.{Event, enrol, Entry, number, callers_full, adds_entry}
 use Rattle.osc_model.specs.Recordings.{entry_size}
@@ -95,7 +95,7 @@ refused_enrolment = record { caller = 0; event = enrol; answer = callers_full } 
 within : (least most n : ℕ) → least ≤ n → n ≤ most → IsWithin least most n
 within least most n above below = record { above = above; below = below }
 
-pub refused_with_one : Legal (limits_of 1 1 1 1 1 1000 Deliver) refused_enrolment
+pub refused_with_one : Legal (least_limits 1 1000) refused_enrolment
 refused_with_one = (
   record {
     units = within 1 1048576 1 (omega arith) (omega arith);
@@ -108,7 +108,7 @@ refused_with_one = (
   (omega arith, tt, tt, refl, tt),
 )
 
-pub not_with_two : ¬ Legal (limits_of 1 1 1 1 2 1000 Deliver) refused_enrolment
+pub not_with_two : ¬ Legal (least_limits 2 1000) refused_enrolment
 not_with_two legal = clash legal.1.3 where
   clash : callers_full ≡ number 1 → ⊥
   clash is = cc

@@ -2,8 +2,8 @@
 //! recordings are formed, and one malformed place at most is reported. These functions do nothing;
 //! their contracts are the laws.
 ghost use Rattle.std.specs.Prelude.{◌≡◌, ◌≤◌, ℕ, List, [], ◌∷◌};
-ghost use Rattle.osc_model.specs.declared.late.Late.TheVariants.{Deliver};
-ghost use Rattle.osc_model.specs.Limits.{Limits, limits_of, max_recording};
+ghost use Rattle.osc_model.specs.Limits.{Limits, max_recording};
+ghost use Rattle.osc_model.specs.Samples.{least_limits};
 ghost use Rattle.osc_model.specs.Events.{Entry, enrol, callers_full};
 ghost use Rattle.osc_model.specs.History.{Legal};
 ghost use Rattle.osc_replay.specs.Room.{PrintsTheSameIn};
@@ -29,9 +29,9 @@ pub fn printed_calls_are_of_matching_methods()
 pub fn a_larger_recording_prints_the_same()
     ensures same { (room : ℕ) (caps : Limits) (history : List Entry) → caps.recording ≤ room
         → room ≤ max_recording → Legal caps history → PrintsTheSameIn room caps history }
-    ensures one_caller { Legal (limits_of 1 1 1 1 1 1000 Deliver)
+    ensures one_caller { Legal (least_limits 1 1000)
         (record { caller = 0; event = enrol; answer = callers_full } ∷ []) }
-    ensures two_callers { ¬ Legal (limits_of 1 1 1 1 2 1000 Deliver)
+    ensures two_callers { ¬ Legal (least_limits 2 1000)
         (record { caller = 0; event = enrol; answer = callers_full } ∷ []) }
 {}
 
