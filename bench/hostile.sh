@@ -21,7 +21,8 @@ methods() { # LAYOUT
     }'
 }
 
-# A front, a piece so many times, and an end; `-` stands for nothing. The piece `TEXT,` is another text each time.
+# A front, a piece so many times, and an end; `-` stands for nothing. The piece `TEXT,` is another text each time, and `{X,}`
+# is `{a,}` or `{b,}` by how many ones its number has in binary (Thue and Morse): nothing stands three times in a row.
 part() { # FRONT PIECE COUNT END
     awk -v front="$1" -v piece="$2" -v count="$3" -v end="$4" 'BEGIN {
         letters = "abcdefghijklmnopqrstuvwxyzABCDEFGHIJKLMNOPQRSTUVWXYZ"
@@ -29,7 +30,11 @@ part() { # FRONT PIECE COUNT END
         for (k = 0; k < count; k++)
             if (piece == "TEXT,")
                 printf "%s%s%s,", substr(letters, int(k / 2704) + 1, 1), substr(letters, int(k / 52) % 52 + 1, 1), substr(letters, k % 52 + 1, 1)
-            else printf "%s", piece
+            else if (piece == "{X,}") {
+                ones = 0
+                for (left = k; left > 0; left = int(left / 2)) ones += left % 2
+                printf "{%s,}", substr(letters, ones % 2 + 1, 1)
+            } else printf "%s", piece
         if (end != "-") printf "%s", end
     }'
 }
@@ -93,6 +98,7 @@ done <<'PARTS'
 - [!bcdefghijklmnopqrstuvwxyz]* 63 -
 { , 64980 }b
 - {a,} 16240 b
+- {X,} 16240 b
 - {,a}{,b} 8120 c
 *{ a, 32490 a}
 *{ TEXT, 16200 b}
