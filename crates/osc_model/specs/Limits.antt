@@ -1,17 +1,11 @@
 -- The limits of a server's tables and of its recording, and what becomes of late units.
 use Rattle.std.specs.Prelude.{ℕ, ◌≤◌, Bool, ◌&&◌, nat_le, if◌then◌else◌, Option, Some, None}
 use Rattle.osc_model.specs.declared.late.Late.{Late}
+use Rattle.osc_model.specs.declared.limits.Limits as declared
 
--- queued units, blocks of 64 bytes for their messages, methods, nodes of the methods' addresses,
--- callers, and the bytes of the recording; and what becomes of late units
-pub record Limits : Type 0 where
-  pub units : ℕ
-  pub blocks : ℕ
-  pub methods : ℕ
-  pub nodes : ℕ
-  pub callers : ℕ
-  pub recording : ℕ
-  pub late : Late
+-- the fields of `Limits` in src/limits.rt
+abbrev pub Limits : Type 0
+Limits = declared.Limits
 
 -- the six limits and the policy, in this order
 abbrev pub limits_of : ℕ → ℕ → ℕ → ℕ → ℕ → ℕ → Late → Limits

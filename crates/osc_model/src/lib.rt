@@ -4,7 +4,9 @@
 
 mod late;
 pub mod laws;
+mod limits;
 mod need;
 
 pub use late::Late;
+pub use limits::Limits;
 pub use need::{Need, is_late, keeps, need_of};

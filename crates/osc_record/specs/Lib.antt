@@ -5,4 +5,3 @@ pub mod Fields
 pub mod Writing
 pub mod Left
 pub mod Unread
-pub mod Headers

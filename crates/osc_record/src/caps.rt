@@ -1,10 +1,9 @@
 //! The limits of a server's tables and of its recording.
 ghost use Rattle.std.specs.Prelude.{◌≡◌, ◌↔◌, IsOk, IfOk, IfErr, Some, None};
 ghost use Rattle.osc_model.specs.Limits.{limits_of, AreInRange, is_within, limit_fault};
-ghost use Rattle.osc_record.specs.Headers.{limits_in};
 
 use crate::limits::{HEADER_SIZE, MAX_CALLERS, MAX_METHODS, MAX_RECORDING, MAX_RESERVED};
-use osc_model::Late;
+use osc_model::{Late, Limits};
 use std::marker::Model;
 use thiserror::Error;
 
@@ -16,20 +15,6 @@ pub struct CapFault {
     pub field: u8,
 }
 
-/// How many queued units, blocks of 64 bytes, methods, nodes and callers there may be, and how many
-/// bytes of recording; and what becomes of late units. The numbers may be any, as a header or a
-/// user gives them.
-#[derive(Clone, Copy, Debug, PartialEq, Eq)]
-pub struct Limits {
-    pub units: u32,
-    pub blocks: u32,
-    pub methods: u32,
-    pub nodes: u32,
-    pub callers: u32,
-    pub recording: u32,
-    pub late: Late,
-}
-
 /// Limits that are each in its range.
 #[derive(Clone, Copy, Debug, PartialEq, Eq)]
 pub struct Caps {
@@ -38,25 +23,14 @@ pub struct Caps {
 
 impl Model for Caps {
     ghost use Rattle.osc_model.specs.Limits.{Limits, AreInRange};
-    ghost use Rattle.osc_record.specs.Headers.{limits_in};
 
     ghost Value = { Limits };
 
-    ghost view = { λ c. limits_in c.limits };
+    ghost view = { λ c. c.limits };
 
-    ghost invariant = { λ c. AreInRange (limits_in c.limits) };
+    ghost invariant = { λ c. AreInRange c.limits };
 
-    ghost inverse = { λ l. record {
-      limits = record {
-        units = l.units;
-        blocks = l.blocks;
-        methods = l.methods;
-        nodes = l.nodes;
-        callers = l.callers;
-        recording = l.recording;
-        late = l.late;
-      };
-    } };
+    ghost inverse = { λ l. record { limits = l } };
 }
 
 impl Caps {
@@ -98,11 +72,10 @@ impl Caps {
 
     /// The same, of limits in one value.
     pub fn of(limits: Limits) -> Result<Caps, CapFault>
-        ensures ok { IfOk result (λ caps. caps ≡ limits_in limits) }
-        ensures exact { IsOk result ↔ AreInRange (limits_in limits) }
-        ensures read { IsOk result ↔ (limit_fault (limits_in limits) ≡ None) }
-        ensures fault { IfErr result
-            (λ fault. limit_fault (limits_in limits) ≡ Some fault.field) }
+        ensures ok { IfOk result (λ caps. caps ≡ limits) }
+        ensures exact { IsOk result ↔ AreInRange limits }
+        ensures read { IsOk result ↔ (limit_fault limits ≡ None) }
+        ensures fault { IfErr result (λ fault. limit_fault limits ≡ Some fault.field) }
     {
         if !lies_within(1, MAX_RESERVED, limits.units) {
             return Err(CapFault { field: 1 });
@@ -141,7 +114,7 @@ impl Caps {
 
     /// All of them.
     pub fn limits(&self) -> Limits
-        ensures value { limits_in result ≡ self.now }
+        ensures value { result ≡ self.now }
         ensures range { AreInRange self.now }
     {
         self.limits

@@ -27,12 +27,12 @@ mod sizes;
 mod unread;
 mod version;
 
-pub use caps::{CapFault, Caps, Limits};
+pub use caps::{CapFault, Caps};
 pub use entries_left::Entries;
 pub use event::{Answer, Entry, Event};
 pub use limits::{HEADER_SIZE, MAX_CALLERS, MAX_METHODS, MAX_RECORDING, MAX_RESERVED};
 pub use old::Old;
-pub use osc_model::Late;
+pub use osc_model::{Late, Limits};
 pub use reader::{Malformed, Reader};
 pub use recorder::Recorder;
 pub use rows::append_header;

@@ -1,17 +1,16 @@
 //! Recordings of the first version of the format, read from borrowed bytes.
-ghost use Rattle.std.specs.Prelude.{◌≡◌, ◌≤◌, length, is_none, option_map};
+ghost use Rattle.std.specs.Prelude.{◌≡◌, ◌≤◌, length, is_none};
 ghost use Rattle.osc_record.specs.declared.version.Version.TheVariants.{First};
-ghost use Rattle.osc_record.specs.Headers.{limits_in};
 ghost use Rattle.osc_record.specs.Reading.{header_read};
 ghost use Rattle.osc_record.specs.Versions.{limit_fault_in};
 
-use crate::caps::Limits;
 use crate::entries_left::Entries;
 use crate::header::{lawful_caps, told_header};
 use crate::limits::{MAX_RECORDING, OLD_HEADER_SIZE};
 use crate::reader::Malformed;
 use crate::sized_messages::check_entries;
 use crate::version::Version;
+use osc_model::Limits;
 use std::marker::Model;
 
 /// A recording of the first version of the format, borrowed from its bytes; docs/FORMATS.md, "Old
@@ -25,14 +24,13 @@ pub struct Old<'a> {
 
 impl<'a> Model for Old<'a> {
     ghost use Rattle.osc_record.specs.declared.version.Version.TheVariants.{First};
-    ghost use Rattle.osc_record.specs.Headers.{limits_in};
     ghost use Rattle.osc_record.specs.Reading.{ReadRecord, read_of, AreRead};
 
     ghost Value = { ReadRecord };
 
-    ghost view = { λ o. read_of First (limits_in o.limits) o.bytes.now };
+    ghost view = { λ o. read_of First o.limits o.bytes.now };
 
-    ghost invariant = { λ o. AreRead First (limits_in o.limits) o.bytes.now };
+    ghost invariant = { λ o. AreRead First o.limits o.bytes.now };
 }
 
 impl<'a> Old<'a> {
@@ -74,7 +72,7 @@ impl<'a> Old<'a> {
 
     /// The limits; late units are delivered.
     pub fn limits(&self) -> Limits
-        ensures { limits_in result ≡ self.now.caps }
+        ensures { result ≡ self.now.caps }
     {
         self.limits
     }
@@ -132,7 +130,7 @@ impl<'a> Old<'a> {
 
 /// The header that the bytes begin with, if each of its limits is in its range.
 fn read_old_header(bytes: &[u8]) -> Option<Limits>
-    ensures { option_map limits_in result ≡ header_read First bytes.now }
+    ensures { result ≡ header_read First bytes.now }
 {
     let limits = told_header(Version::First, bytes)?;
     if is_lawful(limits) {
@@ -144,7 +142,7 @@ fn read_old_header(bytes: &[u8]) -> Option<Limits>
 
 /// Whether each limit is in its range, where the recording has at least a header.
 fn is_lawful(limits: Limits) -> bool
-    ensures { result ≡ is_none (limit_fault_in First (limits_in limits)) }
+    ensures { result ≡ is_none (limit_fault_in First limits) }
 {
     if limits.recording < OLD_HEADER_SIZE || limits.recording > MAX_RECORDING {
         return false;
