@@ -1,23 +1,24 @@
 -- What happened to the units of a packet, by what was answered to it.
-use Rattle.std.specs.Prelude.{ℕ, ◌==◌, ◌||◌, nat_lt, if◌then◌else◌}
+use Rattle.std.specs.Prelude.{ℕ, [], nat_lt, if◌then◌else◌}
 use Rattle.osc_core.specs.declared.answers.Submitted.{Submitted}
 use Rattle.osc_core.specs.declared.answers.Submitted.TheVariants as submitted
 use Rattle.osc_live.specs.declared.submission.Submission.{Submission}
 use Rattle.osc_model.specs.declared.late.Late.{Late}
 use Rattle.osc_model.specs.declared.late.Late.TheVariants.{Deliver, Discard}
+use Rattle.osc_model.specs.Step.{is_late}
 use Rattle.osc_shown.specs.declared.answered.Answered.{Answered}
 use Rattle.osc_shown.specs.declared.answered.Answered.TheVariants as answered
 
--- what becomes of a unit whose tag is over
+-- what becomes of a late unit
 abbrev pub over : Late → Answered
 over Deliver = answered.Late
 over Discard = answered.Discarded
 
--- what becomes of a unit with this tag where the clock stands so: one with the tag 1 is always due
+-- what becomes of a unit with this tag where the clock stands so
 abbrev pub queued : Late → ℕ → ℕ → Answered
 queued late clock tag =
     if nat_lt clock tag then answered.Waiting
-    else if (tag == 1) || (tag == clock) then answered.Due else over late
+    else if is_late clock (record { tag = tag; messages = [] }) then over late else answered.Due
 
 -- what happened to a unit of a packet to which this was answered
 abbrev pub answered_so : Late → ℕ → Submitted → ℕ → Answered

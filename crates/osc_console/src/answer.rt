@@ -4,7 +4,7 @@ ghost use Rattle.osc_console.specs.Answers.{answer_of, queued};
 
 use osc_core::Submitted;
 use osc_live::Submission;
-use osc_model::Late;
+use osc_model::{Late, is_late};
 use osc_shown::Answered;
 
 /// What happened to a unit with this tag, by what was answered to its packet and where the server's
@@ -27,7 +27,7 @@ fn queued(late: Late, clock: u64, tag: u64) -> Answered
     if tag > clock {
         return Answered::Waiting;
     }
-    if tag == 1 || tag == clock {
+    if !is_late(clock, tag) {
         return Answered::Due;
     }
     match late {
