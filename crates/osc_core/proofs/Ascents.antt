@@ -56,14 +56,14 @@ not_there [] id none (k, lt, at) = omega arith
 not_there (other ∷ ids) id none (zero, lt, at) = none.0 at
 not_there (other ∷ ids) id none (suc k, lt, at) = not_there ids id none.1 (k, omega arith, at)
 
--- those behind an id are others
-pub behind : (id : ℕ) (ids : List ℕ) → list_all (nat_lt id) ids ≡ true → AllByRecursion (λ other. other ≢ id) ids
-behind id [] all = tt
-behind id (other ∷ ids) all =
+-- those above an id are others
+pub greater_are_others : (id : ℕ) (ids : List ℕ) → list_all (nat_lt id) ids ≡ true → AllByRecursion (λ other. other ≢ id) ids
+greater_are_others id [] all = tt
+greater_are_others id (other ∷ ids) all =
     let p = and_parts (nat_lt id other) (list_all (nat_lt id) ids) all in
-    (λ (same : other ≡ id). grind (arith, nat_tests, p.0), behind id ids p.1)
+    (λ (same : other ≡ id). grind (arith, nat_tests, p.0), greater_are_others id ids p.1)
 
--- an id that is above all enters behind them
+-- an id that is above all enters after them
 pub ascending_pushed : (ids : List ℕ) (id : ℕ) → is_ascending ids ≡ true → ((k : ℕ) → k < length ids → get_or ids k 0 < id)
     → is_ascending (ids ++ id ∷ []) ≡ true
 ascending_pushed [] id ascending below = refl
@@ -115,7 +115,7 @@ module _ {X : Type 0} (key : X → ℕ) where
   left_out (x ∷ xs) zero id ascending within at =
       let p = and_parts (list_all (nat_lt (key x)) (map key xs)) (is_ascending (map key xs)) ascending in
       let e : not (key x == id) ≡ false = same (key x) id at in
-      let none = subst (λ (n : ℕ). AllByRecursion (λ other. other ≢ n) (map key xs)) at (behind (key x) (map key xs) p.0) in
+      let none = subst (λ (n : ℕ). AllByRecursion (λ other. other ≢ n) (map key xs)) at (greater_are_others (key x) (map key xs) p.0) in
       rw e (sym (none_left_out id xs none))
     where
       same : (a b : ℕ) → a ≡ b → not (a == b) ≡ false

@@ -13,7 +13,7 @@ use Rattle.osc_pattern.specs.Methods.{Method}
 use Rattle.osc_method.specs.declared.call.Call.{Call as CodeCall}
 use Rattle.osc_core.specs.Calls.{invocation_by}
 use Rattle.osc_core.specs.Ids.{is_ascending}
-use Rattle.osc_core.proofs.Ascents.{behind, rising}
+use Rattle.osc_core.proofs.Ascents.{greater_are_others, rising}
 
 pub heard_one : (told : Told) (invocation : Invocation) (keep : Fixed) (heard : Option (List ℕ)) → told.id ≡ invocation.call.id → keep ≡ told.keep
     → heard ≡ after_call told.keep.most (bytes_of invocation) told.heard → record { id = told.id; keep = keep; heard = heard } ≡ hear told invocation
@@ -38,7 +38,7 @@ one_hears [] place one invocation ascending within at is = absurd (omega arith)
 one_hears (told ∷ boxes) zero one invocation ascending within at is =
     let p = and_parts (list_all (nat_lt told.id) (map (λ told. told.id) boxes)) (is_ascending (map (λ told. told.id) boxes)) ascending in
     let none = subst (λ (n : ℕ). AllByRecursion (λ other. other ≢ n) (map (λ (one : Told). one.id) boxes)) at
-    (behind told.id (map (λ told. told.id) boxes) p.0) in
+    (greater_are_others told.id (map (λ told. told.id) boxes) p.0) in
     ap (λ (t : Told). t ∷ boxes) is ∙ ap (λ (l : List Told). hear told invocation ∷ l) (sym (none_hears boxes invocation none))
 one_hears (told ∷ boxes) (suc place) one invocation ascending within at is =
     let p = and_parts (list_all (nat_lt told.id) (map (λ told. told.id) boxes)) (is_ascending (map (λ told. told.id) boxes)) ascending in

@@ -26,7 +26,7 @@ use Rattle.osc_core.specs.Ids.{is_ascending}
 use Rattle.osc_core.specs.Standing.{mark_of, mark_after, text_with, AreTexts, as_many, history_in, CarriesMark, AreMarked, StandsFor, mark_in, mark_by}
 use Rattle.osc_core.specs.Standing.{texts_of}
 use Rattle.osc_core.proofs.Added.{IsAdded, methods_added}
-use Rattle.osc_core.proofs.Ascents.{behind}
+use Rattle.osc_core.proofs.Ascents.{greater_are_others}
 use Rattle.osc_core.proofs.Played.{few_entries}
 
 -- What the laws say.
@@ -258,7 +258,7 @@ own_marks : (boxes : List Told) → is_ascending (map (λ told. told.id) boxes) 
 own_marks [] ascending = tt
 own_marks (told ∷ boxes) ascending =
     let p = and_parts (list_all (nat_lt told.id) (map (λ (one : Told). one.id) boxes)) (is_ascending (map (λ (one : Told). one.id) boxes)) ascending in
-    (here (told.id == told.id) (eq-eqb told.id told.id refl), later boxes (behind told.id (map (λ (one : Told). one.id) boxes) p.0) (own_marks boxes p.1))
+    (here (told.id == told.id) (eq-eqb told.id told.id refl), later boxes (greater_are_others told.id (map (λ (one : Told). one.id) boxes) p.0) (own_marks boxes p.1))
   where
     here : (t : Bool) → t ≡ true → cond t (mark_of told) (mark_in boxes told.id) ≡ mark_of told
     here true is = refl

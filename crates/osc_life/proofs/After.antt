@@ -7,7 +7,7 @@ use Rattle.osc_turn.specs.declared.view.View.{View}
 use Rattle.osc_turn.specs.History.{StartsWith, own}
 use Rattle.osc_turn.specs.Rule.{number_of}
 use Rattle.osc_turn.proofs.Histories.{starts_own, own_append, own_of_mine}
-use Rattle.osc_life.proofs.Staging.{IsOfToken}
+use Rattle.osc_life.proofs.Enrolments.{IsOfToken}
 
 all_after : {X : Type 0} (P : X → Type 0) (xs ys : List X) → AllByRecursion P (xs ++ ys) → AllByRecursion P ys
 all_after P [] ys all = all

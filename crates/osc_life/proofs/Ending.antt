@@ -35,7 +35,7 @@ use Rattle.osc_life.specs.Works.{IsDone, caller_of, work_of, caller_in, end_in}
 use Rattle.osc_life.proofs.Balance.{StaysSound, gone_ids, balance, ascends}
 use Rattle.osc_life.proofs.After.{IsWithin, within_seen, within_none, nothing_after}
 use Rattle.osc_life.proofs.Learning.{HasHeard}
-use Rattle.osc_life.proofs.Staging.{IsNamed, IsOfToken, all_named, all_of_tokens, none_named, only_first, alone_from, each_named}
+use Rattle.osc_life.proofs.Enrolments.{IsNamed, IsOfToken, all_named, all_of_tokens, none_named, only_first, alone_from, each_named}
 use Rattle.osc_life.proofs.Sharing.{Carried, all_carried, silent_then, silent_before, none_seen, names_back, shares}
 
 pub all_split : {X : Type 0} (P : X → Type 0) (xs ys : List X) → AllByRecursion P (xs ++ ys) → AllByRecursion P xs × AllByRecursion P ys

@@ -34,7 +34,7 @@ use Rattle.osc_core.specs.Standing.{history_in}
 use Rattle.osc_core.proofs.Texts.{read_more}
 use Rattle.osc_life.specs.Crews.{enrolments}
 use Rattle.osc_life.specs.Crews.{names_of, same_names, IsSilent, IsCrewFrom, HasCallers, IsLeft, FindsNoRoom}
-use Rattle.osc_life.proofs.Staging.{all_own, all_before}
+use Rattle.osc_life.proofs.Enrolments.{all_own, all_before}
 
 -- What is seen is all a token's own.
 

@@ -8,6 +8,6 @@ pub mod Looks
 pub mod Resumed
 pub mod Rounds
 pub mod Sharing
-pub mod Staging
+pub mod Enrolments
 pub mod Under
 pub mod Zipping

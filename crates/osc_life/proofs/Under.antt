@@ -33,7 +33,7 @@ use Rattle.osc_life.proofs.Ending.{OpensSound, known_joined, all_split, closed_s
 use Rattle.osc_life.proofs.Enrolling.{init_same, names_push}
 use Rattle.osc_life.proofs.Learning.{HasHeard}
 use Rattle.osc_life.proofs.Sharing.{Carried, all_carried, none_seen, names_back, shares}
-use Rattle.osc_life.proofs.Staging.{all_of_tokens}
+use Rattle.osc_life.proofs.Enrolments.{all_of_tokens}
 
 last_same : {X : Type 0} (xs ys : List X) (x y : X) → xs ++ x ∷ [] ≡ ys ++ y ∷ [] → x ≡ y
 last_same [] [] x y e = let head : x ≡ y = cc in head

@@ -23,7 +23,7 @@ use Rattle.osc_life.specs.Works.{HasShare}
 use Rattle.osc_life.proofs.Balance.{gone_ids}
 use Rattle.osc_life.proofs.Ending.{gone_is}
 use Rattle.osc_life.proofs.Enrolling.{own_before}
-use Rattle.osc_life.proofs.Staging.{all_own}
+use Rattle.osc_life.proofs.Enrolments.{all_own}
 use Rattle.osc_lanes.specs.Performs.{Part, removed_ids, told_of}
 use Rattle.osc_lanes.specs.Shares.{Account, Plays}
 use Rattle.osc_lanes.proofs.Parting.{given_by, given_in, parted}

@@ -14,11 +14,11 @@ times-append block (x ∷ xs) ys = omega (arith, times-append block xs ys)
 pub times_head : (block : ℕ) (others : List ℕ) → times block (block ∷ others) ≡ 1 + times block others
 times_head block others = ap (λ (b : Bool). cond b 1 0 + times block others) (eq-eqb block block refl)
 
--- a list is no more than what is behind its head to another block
+-- a list is no more than what comes after its head to another block
 pub times_other : (block one : ℕ) (others : List ℕ) → (block ≡ one → ⊥) → times block (one ∷ others) ≡ times block others
 times_other block one others differs = ap (λ (b : Bool). cond b 1 0 + times block others) (ne_eqb block one differs) ∙ omega arith
 
--- a block that doesn't stand in a list is neither its head nor behind it
+-- a block that doesn't stand in a list is neither its head nor after it
 pub times_none : (block one : ℕ) (others : List ℕ) → times block (one ∷ others) ≡ 0 → (block ≡ one → ⊥) × (times block others ≡ 0)
 times_none block one others none = go (eqb block one) refl where
   go : (same : Bool) → eqb block one ≡ same → (block ≡ one → ⊥) × (times block others ≡ 0)

@@ -6,10 +6,10 @@ use Rattle.std.proofs.lemmas.List.{length-set, get_or-set_same, get_or-set_other
 use Rattle.std.proofs.lemmas.List.Sums.{sum_by-set}
 use Rattle.osc_pool.specs.declared.chain.Chain.{Chain}
 use Rattle.osc_pool.specs.Holding.{blocks_for, used_blocks, held_by, with_chain, IsLive, IsNew, KeepsLive, KeepsOthers}
-use Rattle.osc_pool.specs.Paths.{path, behind, filled_up, text, paths_from, texts_from, times, uses, IsPath, AreWhole, IsWritten, IsSound}
+use Rattle.osc_pool.specs.Paths.{path, block_after, filled_up, text, paths_from, texts_from, times, uses, IsPath, AreWhole, IsWritten, IsSound}
 use Rattle.osc_pool.proofs.Counts.{times-append, times_head, times_part, times_parts}
 use Rattle.osc_pool.proofs.Live.{held_none, held_some, with_some, is_new, keeps_live, keeps_others, holds}
-use Rattle.osc_pool.proofs.Walks.{path-add, behind-add, path_kept, behind_kept, text_relinked, text_same, length-text, length-paths, length-texts, path_at}
+use Rattle.osc_pool.proofs.Walks.{path-add, block_after-add, path_kept, block_after_kept, text_relinked, text_same, length-text, length-paths, length-texts, path_at}
 use Rattle.osc_pool.proofs.Walks.{text_at, times_first, paths_set, paths_same, used-texts}
 
 module _ {blocks : List (List ℕ)} {next sizes : List ℕ} {first free : ℕ} (is : IsSound blocks next sizes first free) where
@@ -63,9 +63,9 @@ module _ {blocks : List (List ℕ)} {next sizes : List ℕ} {first free : ℕ} (
   -- free blocks are a path
   pub free_path : (count : ℕ) → count ≤ free → IsPath next count first (length blocks)
   free_path count few =
-      let parts : path next free first ≡ path next count first ++ path next (free - count) (behind next count first) =
+      let parts : path next free first ≡ path next count first ++ path next (free - count) (block_after next count first) =
       (let e : free ≡ count + (free - count) = omega arith in ap (λ n. path next n first) e ∙ path-add next count (free - count) first) in
-      let counts : (b : ℕ) → times b (path next free first) ≡ times b (path next count first) + times b (path next (free - count) (behind next count first)) =
+      let counts : (b : ℕ) → times b (path next free first) ≡ times b (path next count first) + times b (path next (free - count) (block_after next count first)) =
       λ b. ap (times b) parts ∙ times-append b _ _ in
       record {
         once = λ b. omega (arith, counts b, is.apart b);
@@ -156,7 +156,7 @@ module _ {blocks : List (List ℕ)} {next sizes : List ℕ} {first free : ℕ} (
       (others : (b : ℕ) → times b (path next (blocks_for (length bytes)) first) ≡ 0 → get_or later b [] ≡ get_or blocks b []) where
     taken_part : (b : ℕ) → times b (path next free first)
         ≡ times b (path next (blocks_for (length bytes)) first)
-        + times b (path next (free - blocks_for (length bytes)) (behind next (blocks_for (length bytes)) first))
+        + times b (path next (free - blocks_for (length bytes)) (block_after next (blocks_for (length bytes)) first))
     taken_part b =
         let e : free ≡ blocks_for (length bytes) + (free - blocks_for (length bytes)) = omega arith in
         ap (λ n. times b (path next n first)) e
@@ -190,12 +190,12 @@ module _ {blocks : List (List ℕ)} {next sizes : List ℕ} {first free : ℕ} (
               ∙ sym (get_or-set_other (texts_from blocks next 0 sizes) first i bytes [] differs)
         ])
 
-    uses_stored : (b : ℕ) → uses next (set sizes first (length bytes)) (behind next (blocks_for (length bytes)) first) (free - blocks_for (length bytes)) b
+    uses_stored : (b : ℕ) → uses next (set sizes first (length bytes)) (block_after next (blocks_for (length bytes)) first) (free - blocks_for (length bytes)) b
         ≡ uses next sizes first free b
     uses_stored b = omega (arith, taken_part b, sums_stored (length bytes) b (omega arith))
 
     pub stored_sound : AreWhole later → length later ≡ length blocks
-        → IsSound later next (set sizes first (length bytes)) (behind next (blocks_for (length bytes)) first) (free - blocks_for (length bytes))
+        → IsSound later next (set sizes first (length bytes)) (block_after next (blocks_for (length bytes)) first) (free - blocks_for (length bytes))
     stored_sound whole same =
         let inside : first < length sizes = omega (arith, first_inside (omega arith), is.sized) in
         let none : blocks_for (get_or sizes first 0) ≡ 0 = ap blocks_for (first_vacant (omega arith)) in
@@ -210,7 +210,7 @@ module _ {blocks : List (List ℕ)} {next sizes : List ℕ} {first free : ℕ} (
         }
 
   -- the chain that begins at a block is given back, whose last block is this one
-  module _ (i last : ℕ) (within : i < length sizes) (some : 0 < get_or sizes i 0) (ends : last ≡ behind next (blocks_for (get_or sizes i 0) - 1) i) where
+  module _ (i last : ℕ) (within : i < length sizes) (some : 0 < get_or sizes i 0) (ends : last ≡ block_after next (blocks_for (get_or sizes i 0) - 1) i) where
     front : List ℕ
     front = path next (blocks_for (get_or sizes i 0) - 1) i
 
@@ -242,27 +242,27 @@ module _ {blocks : List (List ℕ)} {next sizes : List ℕ} {first free : ℕ} (
     linked_last : get_or (set next last first) last 0 ≡ first
     linked_last = get_or-set_same next last first 0 (omega (arith, last_inside, is.linked))
 
-    front_behind : behind (set next last first) (blocks_for (get_or sizes i 0) - 1) i ≡ last
-    front_behind = behind_kept next last first (blocks_for (get_or sizes i 0) - 1) i front_apart ∙ sym ends
+    front_after : block_after (set next last first) (blocks_for (get_or sizes i 0) - 1) i ≡ last
+    front_after = block_after_kept next last first (blocks_for (get_or sizes i 0) - 1) i front_apart ∙ sym ends
 
     chain_stays : path (set next last first) (blocks_for (get_or sizes i 0)) i ≡ path next (blocks_for (get_or sizes i 0)) i
     chain_stays =
         let e : blocks_for (get_or sizes i 0) ≡ blocks_for (get_or sizes i 0) - 1 + 1 = omega arith in
         ap (λ n. path (set next last first) n i) e ∙ path-add (set next last first) (blocks_for (get_or sizes i 0) - 1) 1 i
-        ∙ rw (front_behind, path_kept next last first (blocks_for (get_or sizes i 0) - 1) i front_apart) refl ∙ sym whole_is
+        ∙ rw (front_after, path_kept next last first (blocks_for (get_or sizes i 0) - 1) i front_apart) refl ∙ sym whole_is
 
-    chain_behind : behind (set next last first) (blocks_for (get_or sizes i 0)) i ≡ first
-    chain_behind =
+    chain_after : block_after (set next last first) (blocks_for (get_or sizes i 0)) i ≡ first
+    chain_after =
         let e : blocks_for (get_or sizes i 0) ≡ blocks_for (get_or sizes i 0) - 1 + 1 = omega arith in
-        ap (λ n. behind (set next last first) n i) e ∙ behind-add (set next last first) (blocks_for (get_or sizes i 0) - 1) 1 i
-        ∙ rw front_behind linked_last
+        ap (λ n. block_after (set next last first) n i) e ∙ block_after-add (set next last first) (blocks_for (get_or sizes i 0) - 1) 1 i
+        ∙ rw front_after linked_last
 
     free_is : path (set next last first) (free + blocks_for (get_or sizes i 0)) i
         ≡ path next (blocks_for (get_or sizes i 0)) i ++ path next free first
     free_is =
         let e : free + blocks_for (get_or sizes i 0) ≡ blocks_for (get_or sizes i 0) + free = omega arith in
         ap (λ n. path (set next last first) n i) e ∙ path-add (set next last first) (blocks_for (get_or sizes i 0)) free i
-        ∙ rw (chain_stays, chain_behind, path_kept next last first free first free_apart) refl
+        ∙ rw (chain_stays, chain_after, path_kept next last first free first free_apart) refl
 
     path_stays : (j : ℕ) → path (set next last first) (blocks_for (get_or sizes j 0)) j ≡ path next (blocks_for (get_or sizes j 0)) j
     path_stays j = elim (cases_eq j i) [
@@ -331,11 +331,11 @@ pub record IsStored (blocks : List (List ℕ)) (next sizes : List ℕ) (first fr
   pub used : used_blocks (texts_from blocks next 0 sizes) ≡ used_blocks old + blocks_for (length bytes)
   pub limit : length (texts_from blocks next 0 sizes) ≡ length old
 
-stored_is : {blocks now : List (List ℕ)} {next sizes : List ℕ} {first free behind_it : ℕ} (old : List (List ℕ)) (bytes : List ℕ)
+stored_is : {blocks now : List (List ℕ)} {next sizes : List ℕ} {first free after_it : ℕ} (old : List (List ℕ)) (bytes : List ℕ)
     → IsSound blocks next sizes first free → texts_from blocks next 0 sizes ≡ old → 0 < length bytes → blocks_for (length bytes) ≤ free
-    → IsWritten blocks now next first behind_it bytes
-    → IsStored now next (set sizes first (length bytes)) behind_it (free - blocks_for (length bytes)) (record { first = first; len = length bytes }) bytes old
-stored_is {blocks} {now} {next} {sizes} {first} {free} {behind_it} old bytes is view some few written =
+    → IsWritten blocks now next first after_it bytes
+    → IsStored now next (set sizes first (length bytes)) after_it (free - blocks_for (length bytes)) (record { first = first; len = length bytes }) bytes old
+stored_is {blocks} {now} {next} {sizes} {first} {free} {after_it} old bytes is view some few written =
     let chain : Chain = record { first = first; len = length bytes } in
     let sound = subst (λ (n : ℕ). IsSound now next (set sizes first (length bytes)) n (free - blocks_for (length bytes))) (sym written.ends)
     (stored_sound is now bytes some few written.written written.others written.whole written.long) in
@@ -357,15 +357,15 @@ stored_is {blocks} {now} {next} {sizes} {first} {free} {behind_it} old bytes is 
     }
 
 -- the same, as it is seen through slices
-pub stored : {next links sizes : List ℕ} {first free behind_it need : ℕ} (blocks now old : List (List ℕ)) (bytes : List ℕ)
+pub stored : {next links sizes : List ℕ} {first free after_it need : ℕ} (blocks now old : List (List ℕ)) (bytes : List ℕ)
     → IsSound (filled_up (length next) blocks) next sizes first free → texts_from (filled_up (length next) blocks) next 0 sizes ≡ old → 0 < length bytes
     → need ≡ blocks_for (length bytes) → need ≤ free → links ≡ next
-    → IsWritten (filled_up (length links) blocks) (filled_up (length links) now) links first behind_it bytes
-    → IsStored (filled_up (length next) now) next (set sizes first (length bytes)) behind_it (free - need)
+    → IsWritten (filled_up (length links) blocks) (filled_up (length links) now) links first after_it bytes
+    → IsStored (filled_up (length next) now) next (set sizes first (length bytes)) after_it (free - need)
     (record { first = first; len = length bytes }) bytes old
-stored {first = first} {behind_it = behind_it} blocks now old bytes is view some needs few links_are written =
+stored {first = first} {after_it = after_it} blocks now old bytes is view some needs few links_are written =
     rw needs (stored_is old bytes is view some (omega arith)
-    (subst (λ (n : List ℕ). IsWritten (filled_up (length n) blocks) (filled_up (length n) now) n first behind_it bytes) links_are written))
+    (subst (λ (n : List ℕ). IsWritten (filled_up (length n) blocks) (filled_up (length n) now) n first after_it bytes) links_are written))
 
 -- a pool in which the chain that began here holds nothing more
 pub record IsGiven (blocks : List (List ℕ)) (next sizes : List ℕ) (first free : ℕ) (chain : Chain) (old : List (List ℕ)) : Type 0 where
@@ -376,12 +376,12 @@ pub record IsGiven (blocks : List (List ℕ)) (next sizes : List ℕ) (first fre
   pub limit : length (texts_from blocks next 0 sizes) ≡ length old
 
 given_is : {blocks : List (List ℕ)} {next sizes : List ℕ} {first free last : ℕ} (chain : Chain) → (is : IsSound blocks next sizes first free)
-    → IsLive chain (texts_from blocks next 0 sizes) → (chain.len ≡ 0 → ⊥) → last ≡ behind next (blocks_for chain.len - 1) chain.first
+    → IsLive chain (texts_from blocks next 0 sizes) → (chain.len ≡ 0 → ⊥) → last ≡ block_after next (blocks_for chain.len - 1) chain.first
     → IsGiven blocks (set next last first) (set sizes chain.first 0) chain.first (free + blocks_for chain.len) chain (texts_from blocks next 0 sizes)
 given_is {blocks} {next} {sizes} {first} {free} {last} chain is live some ends =
     let size : get_or sizes chain.first 0 ≡ chain.len = live_size is chain live some in
     let inside = live_inside is chain live some in
-    let ends' : last ≡ behind next (blocks_for (get_or sizes chain.first 0) - 1) chain.first = rw size ends in
+    let ends' : last ≡ block_after next (blocks_for (get_or sizes chain.first 0) - 1) chain.first = rw size ends in
     let some' : 0 < get_or sizes chain.first 0 = omega arith in
     let sound : IsSound blocks (set next last first) (set sizes chain.first 0) chain.first (free + blocks_for chain.len) =
     subst (λ (n : ℕ). IsSound blocks (set next last first) (set sizes chain.first 0) chain.first (free + blocks_for n)) size
@@ -398,10 +398,10 @@ given_is {blocks} {next} {sizes} {first} {free} {last} chain is live some ends =
 
 pub given : {next links sizes : List ℕ} {first free last count : ℕ} (blocks : List (List ℕ)) (chain : Chain) (old : List (List ℕ))
     → IsSound (filled_up (length next) blocks) next sizes first free → texts_from (filled_up (length next) blocks) next 0 sizes ≡ old → IsLive chain old
-    → (chain.len ≡ 0 → ⊥) → count ≡ blocks_for chain.len → links ≡ next → last ≡ behind links (count - 1) chain.first
+    → (chain.len ≡ 0 → ⊥) → count ≡ blocks_for chain.len → links ≡ next → last ≡ block_after links (count - 1) chain.first
     → IsGiven (filled_up (length (set next last first)) blocks) (set next last first) (set sizes chain.first 0) chain.first (free + count) chain old
 given {next} {links} {sizes} {first} {free} {last} {count} blocks chain old is view live some counts links_are ends =
-    let ends' : last ≡ behind next (blocks_for chain.len - 1) chain.first = ends ∙ rw (links_are, counts) refl in
+    let ends' : last ≡ block_after next (blocks_for chain.len - 1) chain.first = ends ∙ rw (links_are, counts) refl in
     subst (λ (l : List (List ℕ)). IsGiven (filled_up (length (set next last first)) blocks) (set next last first) (set sizes chain.first 0) chain.first
     (free + count) chain l) view
     (subst (λ (n : ℕ). IsGiven (filled_up n blocks) (set next last first) (set sizes chain.first 0) chain.first (free + count) chain
@@ -411,28 +411,28 @@ given {next} {links} {sizes} {first} {free} {last} {count} blocks chain old is v
 -- no block stands in the chains that are left more often
 pub given_sums : {blocks : List (List ℕ)} {next links sizes : List ℕ} {first free last count : ℕ} (chain : Chain) (old : List (List ℕ))
     → IsSound blocks next sizes first free → texts_from blocks next 0 sizes ≡ old → IsLive chain old → (chain.len ≡ 0 → ⊥)
-    → count ≡ blocks_for chain.len → links ≡ next → last ≡ behind links (count - 1) chain.first
+    → count ≡ blocks_for chain.len → links ≡ next → last ≡ block_after links (count - 1) chain.first
     → (b : ℕ) → sum_by (times b) (paths_from (set next last first) 0 (set sizes chain.first 0)) ≤ sum_by (times b) (paths_from next 0 sizes)
 given_sums {blocks} {next} {links} {sizes} {first} {free} {last} {count} chain old is view live some counts links_are ends =
     let live' = subst (λ (l : List (List ℕ)). IsLive chain l) (sym view) live in
     let size : get_or sizes chain.first 0 ≡ chain.len = live_size is chain live' some in
-    let ends' : last ≡ behind next (blocks_for (get_or sizes chain.first 0) - 1) chain.first = ends ∙ rw (links_are, counts, size) refl in
+    let ends' : last ≡ block_after next (blocks_for (get_or sizes chain.first 0) - 1) chain.first = ends ∙ rw (links_are, counts, size) refl in
     sums_given is chain.first last (live_inside is chain live' some) (omega arith) ends'
 
 -- the last block of a chain lies in the pool
 pub last_within : {blocks : List (List ℕ)} {next links sizes : List ℕ} {first free last count : ℕ} (chain : Chain) (old : List (List ℕ))
     → IsSound blocks next sizes first free → texts_from blocks next 0 sizes ≡ old → IsLive chain old → (chain.len ≡ 0 → ⊥)
-    → count ≡ blocks_for chain.len → links ≡ next → last ≡ behind links (count - 1) chain.first → last < length next
+    → count ≡ blocks_for chain.len → links ≡ next → last ≡ block_after links (count - 1) chain.first → last < length next
 last_within {blocks} {next} {links} {sizes} {first} {free} {last} {count} chain old is view live some counts links_are ends =
     let live' = subst (λ (l : List (List ℕ)). IsLive chain l) (sym view) live in
     let size : get_or sizes chain.first 0 ≡ chain.len = live_size is chain live' some in
-    let ends' : last ≡ behind next (blocks_for (get_or sizes chain.first 0) - 1) chain.first = ends ∙ rw (links_are, counts, size) refl in
+    let ends' : last ≡ block_after next (blocks_for (get_or sizes chain.first 0) - 1) chain.first = ends ∙ rw (links_are, counts, size) refl in
     omega (arith, is.linked, last_inside is chain.first last (live_inside is chain live' some) (omega arith) ends')
 
 -- the same, where the size is known otherwise
-pub stored_as : {next links sizes : List ℕ} {first free behind_it need : ℕ} (blocks now old : List (List ℕ)) (bytes : List ℕ) (size : ℕ) → size ≡ length bytes
+pub stored_as : {next links sizes : List ℕ} {first free after_it need : ℕ} (blocks now old : List (List ℕ)) (bytes : List ℕ) (size : ℕ) → size ≡ length bytes
     → IsSound (filled_up (length next) blocks) next sizes first free → texts_from (filled_up (length next) blocks) next 0 sizes ≡ old → 0 < length bytes
     → need ≡ blocks_for (length bytes) → need ≤ free → links ≡ next
-    → IsWritten (filled_up (length links) blocks) (filled_up (length links) now) links first behind_it bytes
-    → IsStored (filled_up (length next) now) next (set sizes first size) behind_it (free - need) (record { first = first; len = size }) bytes old
+    → IsWritten (filled_up (length links) blocks) (filled_up (length links) now) links first after_it bytes
+    → IsStored (filled_up (length next) now) next (set sizes first size) after_it (free - need) (record { first = first; len = size }) bytes old
 stored_as blocks now old bytes size sized is view some needs few links_are written = rw sized (stored blocks now old bytes is view some needs few links_are written)

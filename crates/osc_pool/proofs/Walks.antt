@@ -5,21 +5,21 @@ use Rattle.std.proofs.lemmas.Bool.{cases_lt}
 use Rattle.std.proofs.lemmas.List.{length-take, get_or-set_other, ext_get_or}
 use Rattle.std.proofs.lemmas.List.Sums.{sum_by-cons}
 use Rattle.osc_pool.specs.Holding.{blocks_for, used_blocks}
-use Rattle.osc_pool.specs.Paths.{path, behind, text, paths_from, texts_from, times, IsPath}
+use Rattle.osc_pool.specs.Paths.{path, block_after, text, paths_from, texts_from, times, IsPath}
 use Rattle.osc_pool.proofs.Counts.{times_head, times_none}
 
--- a path is its first part and the blocks behind that
-pub path-add : (next : List ℕ) (n m block : ℕ) → path next (n + m) block ≡ path next n block ++ path next m (behind next n block)
+-- a path is its first part and the blocks after that
+pub path-add : (next : List ℕ) (n m block : ℕ) → path next (n + m) block ≡ path next n block ++ path next m (block_after next n block)
 path-add next zero m block = rw zero-add refl
 path-add next (suc n) m block =
     let more : suc n + m ≡ suc (n + m) = omega arith in
     rw more (ap (λ (l : List ℕ). block ∷ l) (path-add next n m (get_or next block 0)))
 
-pub behind-add : (next : List ℕ) (n m block : ℕ) → behind next (n + m) block ≡ behind next m (behind next n block)
-behind-add next zero m block = rw zero-add refl
-behind-add next (suc n) m block =
+pub block_after-add : (next : List ℕ) (n m block : ℕ) → block_after next (n + m) block ≡ block_after next m (block_after next n block)
+block_after-add next zero m block = rw zero-add refl
+block_after-add next (suc n) m block =
     let more : suc n + m ≡ suc (n + m) = omega arith in
-    rw more (behind-add next n m (get_or next block 0))
+    rw more (block_after-add next n m (get_or next block 0))
 
 -- a link that doesn't lie on a path may change
 pub path_kept : (next : List ℕ) (at link n block : ℕ) → times at (path next n block) ≡ 0 → path (set next at link) n block ≡ path next n block
@@ -29,12 +29,12 @@ path_kept next at link (suc n) block none =
     let same : get_or (set next at link) block 0 ≡ get_or next block 0 = get_or-set_other next at block link 0 (λ e. apart.0 (sym e)) in
     rw same (ap (λ (l : List ℕ). block ∷ l) (path_kept next at link n (get_or next block 0) apart.1))
 
-pub behind_kept : (next : List ℕ) (at link n block : ℕ) → times at (path next n block) ≡ 0 → behind (set next at link) n block ≡ behind next n block
-behind_kept next at link zero block none = refl
-behind_kept next at link (suc n) block none =
+pub block_after_kept : (next : List ℕ) (at link n block : ℕ) → times at (path next n block) ≡ 0 → block_after (set next at link) n block ≡ block_after next n block
+block_after_kept next at link zero block none = refl
+block_after_kept next at link (suc n) block none =
     let apart = times_none at block (path next n (get_or next block 0)) none in
     let same : get_or (set next at link) block 0 ≡ get_or next block 0 = get_or-set_other next at block link 0 (λ e. apart.0 (sym e)) in
-    rw same (behind_kept next at link n (get_or next block 0) apart.1)
+    rw same (block_after_kept next at link n (get_or next block 0) apart.1)
 
 pub text_relinked : (blocks : List (List ℕ)) (next : List ℕ) (at link n block size : ℕ) → times at (path next n block) ≡ 0
     → text blocks (set next at link) n block size ≡ text blocks next n block size

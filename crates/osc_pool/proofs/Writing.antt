@@ -6,7 +6,7 @@ use Rattle.std.proofs.lemmas.List.{length-set, length-take, length-drop, get_or-
 use Rattle.std.proofs.lemmas.Slice.{take-put_mid}
 use borrow.Rule.Slice.PartMut.{put_mid, post_of}
 use Rattle.osc_pool.specs.Holding.{blocks_for}
-use Rattle.osc_pool.specs.Paths.{path, behind, text, times, IsPath, IsWritten, AreWhole}
+use Rattle.osc_pool.specs.Paths.{path, block_after, text, times, IsPath, IsWritten, AreWhole}
 use Rattle.osc_pool.proofs.Counts.{times_head, times_none, times_other}
 use Rattle.osc_pool.proofs.Walks.{path_inside}
 
@@ -17,7 +17,7 @@ blocks_more size some = omega arith
 -- what is left of the bytes lies on what is left of the path; once it is written, all bytes are
 pub record IsWriting (before now : List (List ℕ)) (next : List ℕ) (first block : ℕ) (bytes rest : List ℕ) : Type 0 where
   pub left : (b : ℕ) → times b (path next (blocks_for (length rest)) block) ≤ times b (path next (blocks_for (length bytes)) first)
-  pub ends : behind next (blocks_for (length rest)) block ≡ behind next (blocks_for (length bytes)) first
+  pub ends : block_after next (blocks_for (length rest)) block ≡ block_after next (blocks_for (length bytes)) first
   pub whole : AreWhole now
   pub long : length now ≡ length before
   pub others : (b : ℕ) → times b (path next (blocks_for (length bytes)) first) ≡ 0 → get_or now b [] ≡ get_or before b []
@@ -95,7 +95,7 @@ module _ {before now : List (List ℕ)} {next : List ℕ} {first block : ℕ} {b
     pub writing_more : (later_block : ℕ) → later_block ≡ get_or next block 0 → IsWriting before (set now block filled) next first later_block bytes others
     writing_more later_block follows = subst (λ (n : ℕ). IsWriting before (set now block filled) next first n bytes others) (sym follows) record {
       left = λ b. omega (arith, is.left b, rest_times b);
-      ends = ap (λ n. behind next n block) (sym blocks_fewer) ∙ is.ends;
+      ends = ap (λ n. block_after next n block) (sym blocks_fewer) ∙ is.ends;
       whole = filled_whole;
       long = length-set now block filled ∙ is.long;
       others = λ b none. get_or-set_other now block b filled [] (outside b none) ∙ is.others b none;
@@ -106,7 +106,7 @@ module _ {before now : List (List ℕ)} {next : List ℕ} {first block : ℕ} {b
 pub writing_ends : {before now : List (List ℕ)} {next : List ℕ} {first block : ℕ} {bytes rest : List ℕ} → IsWriting before now next first block bytes rest
     → length rest ≡ 0 → IsWritten before now next first block bytes
 writing_ends {now = now} {next = next} {block = block} {rest = rest} is none = record {
-  ends = ap (λ (n : ℕ). behind next (blocks_for n) block) (sym none) ∙ is.ends;
+  ends = ap (λ (n : ℕ). block_after next (blocks_for n) block) (sym none) ∙ is.ends;
   written = is.ahead now (λ b _. refl) (ap (λ (n : ℕ). text now next (blocks_for n) block n) none ∙ sym (empty rest none));
   others = is.others;
   whole = is.whole;

@@ -11,9 +11,9 @@ path next zero block = []
 path next (suc count) block = block ∷ path next count (slice_index_or next block 0)
 
 -- the block after so many
-abbrev pub behind : List ℕ → ℕ → ℕ → ℕ
-behind next zero block = block
-behind next (suc count) block = behind next count (slice_index_or next block 0)
+abbrev pub block_after : List ℕ → ℕ → ℕ → ℕ
+block_after next zero block = block
+block_after next (suc count) block = block_after next count (slice_index_or next block 0)
 
 -- so many bytes, from so many blocks on from this one
 abbrev pub text : List (List ℕ) → List ℕ → ℕ → ℕ → ℕ → List ℕ
@@ -80,9 +80,9 @@ pub record AreReached (blocks : List ℕ) (before after limit : ℕ) : Type 0 wh
   pub few : after ≤ limit
 
 -- bytes are written on a path, and other blocks stay; the block after the path is this one
-pub record IsWritten (before after : List (List ℕ)) (next : List ℕ) (first behind_it : ℕ)
+pub record IsWritten (before after : List (List ℕ)) (next : List ℕ) (first after_it : ℕ)
     (bytes : List ℕ) : Type 0 where
-  pub ends : behind_it ≡ behind next (blocks_for (length bytes)) first
+  pub ends : after_it ≡ block_after next (blocks_for (length bytes)) first
   pub written : text after next (blocks_for (length bytes)) first (length bytes) ≡ bytes
   pub others : (block : ℕ) → times block (path next (blocks_for (length bytes)) first) ≡ 0
       → slice_index_or after block [] ≡ slice_index_or before block []

@@ -4,8 +4,8 @@ ghost use Rattle.std.specs.Prelude.{◌≡◌, ◌-◌, ◌<◌, ◌≤◌, ◌^
 ghost use Rattle.std.specs.Prelude.{take, vec_capacity};
 ghost use Rattle.std.specs.List.{range_with_len};
 ghost use Rattle.osc_pool.specs.Holding.{blocks_for};
-ghost use Rattle.osc_pool.specs.Paths.{behind, filled_up, path, text, IsPath, IsPut, IsWritten};
-ghost use Rattle.osc_pool.specs.Paths.{AreReached, AreWhole};
+ghost use Rattle.osc_pool.specs.Paths.{block_after, filled_up, path, text, IsPath, IsPut};
+ghost use Rattle.osc_pool.specs.Paths.{AreReached, AreWhole, IsWritten};
 
 use crate::limits::BLOCK_SIZE;
 use std::alloc::{AllocError, Global};
@@ -45,7 +45,7 @@ pub(crate) fn copies<T: Copy>(alloc: Global, value: T, count: u32) -> Result<Vec
 pub(crate) fn last_of(next: &[u32], first: u32, count: usize) -> u32
     requires some { 0 < count }
     requires path { IsPath next.now count first (length next.now) }
-    ensures { result ≡ behind next.now (count - 1) first }
+    ensures { result ≡ block_after next.now (count - 1) first }
 {
     let mut block = first;
     for _step in 1..count {

@@ -22,24 +22,24 @@ enough (suc m) (suc n) (byte ∷ word) few also =
       go (Some cut) short more = ap (λ (t : Option (List ℕ)). option_map (λ bytes. cut.0 ∷ bytes) t) (more cut.1 short)
 
 -- what is read after other bytes
-abbrev pub behind : List ℕ → Option (List ℕ) → Option (List ℕ)
-behind front read = option_map (λ bytes. front ++ bytes) read
+abbrev pub after_front : List ℕ → Option (List ℕ) → Option (List ℕ)
+after_front front read = option_map (λ bytes. front ++ bytes) read
 
-behind_on : (front : List ℕ) (byte : ℕ) (read : Option (List ℕ)) → behind (front ++ byte ∷ []) read ≡ behind front (option_map (λ bytes. byte ∷ bytes) read)
-behind_on front byte None = refl
-behind_on front byte (Some bytes) = ap (λ (l : List ℕ). Some l) (append_assoc front (byte ∷ []) bytes)
+after_on : (front : List ℕ) (byte : ℕ) (read : Option (List ℕ)) → after_front (front ++ byte ∷ []) read ≡ after_front front (option_map (λ bytes. byte ∷ bytes) read)
+after_on front byte None = refl
+after_on front byte (Some bytes) = ap (λ (l : List ℕ). Some l) (append_assoc front (byte ∷ []) bytes)
 
 -- a byte is read, and the rest is read on
 pub byte_on : (word : List ℕ) (byte : ℕ) (rest front : List ℕ) → 0 < length word → first_byte word ≡ Some (byte, rest) → length rest < length word
-    → behind (front ++ byte ∷ []) (text_read rest) ≡ behind front (text_read word)
+    → after_front (front ++ byte ∷ []) (text_read rest) ≡ after_front front (text_read word)
 byte_on [] byte rest front some is short = absurd (omega arith)
 byte_on (first ∷ word) byte rest front some is short =
-    behind_on front byte (text_read rest)
-    ∙ ap (λ (t : Option (List ℕ)). behind front (option_map (λ bytes. byte ∷ bytes) t)) (enough (length rest) (length word) rest (omega arith) (omega arith))
-    ∙ ap (λ (o : Option (ℕ × List ℕ)). behind front (option_and_then (λ cut. option_map (λ bytes. cut.0 ∷ bytes) (text_within (length word) cut.1)) o)) (sym is)
+    after_on front byte (text_read rest)
+    ∙ ap (λ (t : Option (List ℕ)). after_front front (option_map (λ bytes. byte ∷ bytes) t)) (enough (length rest) (length word) rest (omega arith) (omega arith))
+    ∙ ap (λ (o : Option (ℕ × List ℕ)). after_front front (option_and_then (λ cut. option_map (λ bytes. cut.0 ∷ bytes) (text_within (length word) cut.1)) o)) (sym is)
 
 -- no byte is read
-pub byte_none : (word front : List ℕ) → 0 < length word → first_byte word ≡ None → behind front (text_read word) ≡ None
+pub byte_none : (word front : List ℕ) → 0 < length word → first_byte word ≡ None → after_front front (text_read word) ≡ None
 byte_none [] front some is = absurd (omega arith)
 byte_none (first ∷ word) front some is =
-    ap (λ (o : Option (ℕ × List ℕ)). behind front (option_and_then (λ cut. option_map (λ bytes. cut.0 ∷ bytes) (text_within (length word) cut.1)) o)) is
+    ap (λ (o : Option (ℕ × List ℕ)). after_front front (option_and_then (λ cut. option_map (λ bytes. cut.0 ∷ bytes) (text_within (length word) cut.1)) o)) is

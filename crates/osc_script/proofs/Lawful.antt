@@ -23,7 +23,7 @@ use Rattle.osc_script.specs.Words.{words_of, is_line_feed, lines_from, lines_of}
 use Rattle.osc_script.specs.Acts.{and_then, only_of, pump_of, decoded, address_of, packet_of, moment_of, act_of, is_known, has_count, served_of, IsLawfulAct}
 use Rattle.osc_script.specs.Lanes.{number_of, within_lanes, lane_of}
 use Rattle.osc_script.specs.Scripts.{on_lane, in_lane, said_of, words_by, line_says, line_from, onto, script_from, script_of, AreLawful, IsOf, AreOf}
-use Rattle.osc_script.proofs.Lines.{behind}
+use Rattle.osc_script.proofs.Lines.{after_front}
 
 -- where a step on what was read gives a value, there was one
 step_ok : {X Y K : Type 0} (read : Result X K) (next : X → Result Y K) (value : Y) → and_then read next ≡ Ok value
@@ -201,7 +201,7 @@ texts_fit mode number (text ∷ texts) lines is =
 
 -- the lines that were read when nothing is left are lawful, and of their mode
 pub lines_fit : (mode : Mode) (lines : List Line) (number : ℕ) (rest : List ℕ) (texts : List (List ℕ)) → length rest ≡ 0
-    → behind lines (script_from mode number (lines_of rest)) ≡ script_from mode 1 texts → AreLawful lines × AreOf mode lines
+    → after_front lines (script_from mode number (lines_of rest)) ≡ script_from mode 1 texts → AreLawful lines × AreOf mode lines
 lines_fit mode lines number [] texts none is = texts_fit mode 1 texts lines (sym is ∙ ap Ok (append-nil lines))
 lines_fit mode lines number (byte ∷ rest) texts none is = absurd (omega arith)
 

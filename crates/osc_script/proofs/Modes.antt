@@ -22,9 +22,9 @@ no_lane word words none = ap (λ read. and_then (ok_or read kinds.Lane) (λ lane
 pub bare_lane : (word : List ℕ) (lane : ℕ) → lane_of word ≡ Some lane → said_of Lanes word [] ≡ Err kinds.Count
 bare_lane word lane is = ap (λ read. and_then (ok_or read kinds.Lane) (λ lane. in_lane lane [])) is
 
-pub behind_lane : (word next : List ℕ) (words : List (List ℕ)) (lane : ℕ) → lane_of word ≡ Some lane
+pub after_lane : (word next : List ℕ) (words : List (List ℕ)) (lane : ℕ) → lane_of word ≡ Some lane
     → said_of Lanes word (next ∷ words) ≡ on_lane lane (act_of next words)
-behind_lane word next words lane is = ap (λ read. and_then (ok_or read kinds.Lane) (λ lane. in_lane lane (next ∷ words))) is
+after_lane word next words lane is = ap (λ read. and_then (ok_or read kinds.Lane) (λ lane. in_lane lane (next ∷ words))) is
 
 pub lane_again : (lane : ℕ) → lane < 16 → lane_of (decimal lane) ≡ Some lane
 unfolding digits

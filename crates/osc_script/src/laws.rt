@@ -83,7 +83,7 @@ pub fn lanes_come_first()
         → said_of Lanes word words ≡ Err kinds.Lane }
     ensures bare { (word : List ℕ) (lane : ℕ) → lane_of word ≡ Some lane
         → said_of Lanes word [] ≡ Err kinds.Count }
-    ensures behind { (word next : List ℕ) (words : List (List ℕ)) (lane : ℕ)
+    ensures later { (word next : List ℕ) (words : List (List ℕ)) (lane : ℕ)
         → lane_of word ≡ Some lane
         → said_of Lanes word (next ∷ words) ≡ on_lane lane (act_of next words) }
 {}

@@ -1,5 +1,5 @@
 use Rattle.std.proofs.Common.{◌≡◌, ℕ, suc, ◌+◌, ◌-◌, ap, sym, ◌∙◌, arith}
-use Rattle.osc_pool.specs.Paths.{path, behind, times}
+use Rattle.osc_pool.specs.Paths.{path, block_after, times}
 use Rattle.osc_pool.proofs.Walks.{path_inside}
 use Rattle.osc_pool.proofs.links.last_of.Goals as goal
 
@@ -15,5 +15,5 @@ loop-step-preserved c =
     let path_more : c.args.count - step + 1 ≡ suc (c.args.count - (step + 1) + 1) = omega arith in
     record {
       left = λ b. omega (arith, c.loop-step.invariant.left b, ap (λ (n : ℕ). times b (path next n block)) path_more);
-      ends = ap (λ (n : ℕ). behind next n block) (sym more) ∙ c.loop-step.invariant.ends;
+      ends = ap (λ (n : ℕ). block_after next n block) (sym more) ∙ c.loop-step.invariant.ends;
     }
