@@ -83,7 +83,8 @@ HasCaughtUp came watcher = HasGone (λ caps at rest sight. HasNoEntry caps at re
 -- what was done by a progress
 abbrev pub Progresses : Progress → List ℕ → Watching → Watching → Type 0
 Progresses progress.NoHeader came old new = (length came < header_size) × (new ≡ old)
-Progresses progress.Malformed came old new = HasNoHeader came 0 × (new ≡ old)
+Progresses progress.Malformed came old new =
+    (header_size ≤ length came) × HasNoHeader came 0 × (new ≡ old)
 Progresses progress.TooLong came old new = IsTooLong came × (new ≡ old)
 Progresses progress.CaughtUp came old new = HasCaughtUp came new
 Progresses (progress.Disagrees place why) came old new =

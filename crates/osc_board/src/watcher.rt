@@ -95,14 +95,16 @@ impl Watcher {
         ensures why { IfErr result (λ fault.
             IsTakeFault fault (self.old.passed + length self.old.bytes) piece.now) }
         ensures err { OnErr result (self.new ≡ self.old) }
+        ensures past { self.new.past ≡ self.old.past }
     {
         self.kept.take(piece)
     }
 
     /// Sees all entries that are whole, or up to one that can't be seen.
     pub fn follow(&mut self) -> Progress
-        ensures { (came : List ℕ) → HasCome came self.old
+        ensures progress { (came : List ℕ) → HasCome came self.old
             → Progresses result came self.old self.new }
+        ensures past { self.new.past ≡ self.old.past }
     {
         records::sizes();
         records::headers_differ();

@@ -1,5 +1,5 @@
 -- A show that goes on.
-use Rattle.std.proofs.Common.{◌≡◌, ◌⊎◌, ℕ, List, [], ◌∷◌, ◌++◌, Option, Some, None, refl, sym, ap, subst, ◌∙◌}
+use Rattle.std.proofs.Common.{◌≡◌, ◌⊎◌, ℕ, List, [], ◌∷◌, ◌++◌, map, Option, Some, None, refl, sym, ap, subst, ◌∙◌}
 use Rattle.std.specs.Prelude.{IfOk, IfSome, IsSomeAnd, Result, Ok, Err}
 use Rattle.std.specs.List.{AllByRecursion}
 use Rattle.osc_method.specs.Heard.{Fixed}
@@ -23,7 +23,7 @@ use Rattle.osc_chain.specs.Shows.{AllTakeOver, CanPlay, OpensAtOwn, last_of, Goe
 
 -- what no call of a relay changes, and what it has heard
 abbrev pub fixed_of : {O : Type 0} {G : Ghosts O} → Relay O G → Fixed
-fixed_of relay = record { most = relay.trace.bytes.capacity; name = relay.address }
+fixed_of {G} relay = record { most = relay.trace.bytes.capacity; name = relay.address; outlets = map G.mark relay.outlets.items }
 
 abbrev pub heard_of : {O : Type 0} {G : Ghosts O} → Relay O G → Option (List ℕ)
 heard_of relay = Some relay.trace.bytes.items

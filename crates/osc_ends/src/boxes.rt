@@ -15,7 +15,7 @@ const KEPT: u32 = 64;
 pub fn traces(alloc: Global) -> Result<Vec<Trace>, AllocError>
     ensures count { IfOk result (λ traces. length traces.items ≡ BOXES) }
     ensures keep { IfOk result (λ traces. All
-        (λ trace. ⟦<Trace as Method>⟧.keep trace ≡ record { most = KEPT; name = [] })
+        (λ trace. ⟦<Trace as Method>⟧.keep trace ≡ record { most = KEPT; name = []; outlets = [] })
         traces.items) }
     ensures heard { IfOk result
         (λ traces. All (λ trace. ⟦<Trace as Method>⟧.heard trace ≡ Some []) traces.items) }

@@ -2,10 +2,12 @@
 use Rattle.std.specs.Prelude.{ℕ, ◌-◌, List, ◌++◌, length, drop, slice_get, Option}
 use Rattle.std.specs.Option.{option_map, option_map_or, unwrap_or}
 
--- what no call of a method changes: how many bytes it keeps at most, and its name
+-- what no call of a method changes: how many bytes it keeps at most, its name, and the mark of each
+-- of its outlets, in order
 pub record Fixed : Type 0 where
   pub most : ℕ
   pub name : List ℕ
+  pub outlets : List (List ℕ)
 
 -- the last bytes, at most so many
 abbrev pub last_of : ℕ → List ℕ → List ℕ

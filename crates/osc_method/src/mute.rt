@@ -8,7 +8,7 @@ use crate::{Call, Method};
 pub struct Mute;
 
 impl Method for Mute {
-    ghost keep = { λ _. record { most = 0; name = [] } };
+    ghost keep = { λ _. record { most = 0; name = []; outlets = [] } };
 
     ghost heard = { λ _. None };
 

@@ -24,7 +24,7 @@ impl Trace {
         requires some { 0 < keep }
         requires few { keep ≤ 1048576 }
         ensures keep { IfOk result
-            (λ trace. ⟦<Trace as Method>⟧.keep trace ≡ record { most = keep; name = [] }) }
+            (λ trace. ⟦<Trace as Method>⟧.keep trace ≡ record { most = keep; name = []; outlets = [] }) }
         ensures heard { IfOk result (λ trace. ⟦<Trace as Method>⟧.heard trace ≡ Some []) }
     {
         Ok(Trace {
@@ -44,7 +44,7 @@ fn head_of(unit: u64, index: u32, size: u32) -> [u8; 16]
 }
 
 impl Method for Trace {
-    ghost keep = { λ t. record { most = t.bytes.capacity; name = [] } };
+    ghost keep = { λ t. record { most = t.bytes.capacity; name = []; outlets = [] } };
 
     ghost heard = { λ t. Some t.bytes.items };
 

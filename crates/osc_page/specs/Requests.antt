@@ -1,8 +1,9 @@
 -- What a request asks for.
 use Rattle.std.specs.Prelude.{◌≡◌, ℕ, List, if◌then◌else◌, codes}
 use Rattle.std.specs.Str.{bytes_eq}
-use Rattle.httparse.specs.Grammar.{RequestHead, ReadsRequest, HasNoRequest, NeverHasRequest}
-use Rattle.httparse.specs.Spans.{RequestOverflows}
+use Rattle.httparse.specs.Grammar.{RequestHead, ReadsRequest, HasNoRequest, MayBecomeRequest}
+use Rattle.httparse.specs.Grammar.{NeverHasRequest}
+use Rattle.httparse.specs.Spans.{RequestExceeds}
 use Rattle.osc_page.specs.declared.limits.TheConstants.{MAX_FIELDS}
 use Rattle.osc_page.specs.declared.request.Want.{Want}
 use Rattle.osc_page.specs.declared.request.Want.TheVariants.{Page, State, Other, Act}
@@ -26,10 +27,10 @@ pub record AsksFor (bytes : List ℕ) (want : Want) : Type 0 where
   pub want_is : want ≡ wanted head.method head.target
 
 -- What the bytes that have come say, by the grammar of HTTP: so far no head of a request stands
--- there whole; or one does; or none can, whatever follows; or one can only with more fields than
--- there may be.
+-- there whole, and one may yet; or one does; or none can, whatever follows; or a front of them has
+-- more fields than there may be.
 abbrev pub Says : List ℕ → Heard → Type 0
-Says bytes More = HasNoRequest bytes
+Says bytes More = HasNoRequest bytes × MayBecomeRequest bytes
 Says bytes (Asks want) = AsksFor bytes want
 Says bytes Bad = NeverHasRequest bytes
-Says bytes Large = RequestOverflows MAX_FIELDS bytes
+Says bytes Large = RequestExceeds MAX_FIELDS bytes

@@ -1,5 +1,5 @@
 -- Loops over a list that change each element, and what holds of each.
-use Rattle.std.proofs.Common.{◌≡◌, ℕ, ◌+◌, ◌<◌, List, [], ◌∷◌, ◌++◌, length, take, drop, get_or, set, All, refl, sym, ap, ◌∙◌, subst, arith, drop-cons, add-one, append_assoc}
+use Rattle.std.proofs.Common.{◌≡◌, ℕ, ◌+◌, ◌<◌, List, [], ◌∷◌, ◌++◌, length, take, drop, get_or, set, All, refl, sym, ap, ◌∙◌, subst, arith, map, drop-cons, add-one, append_assoc}
 use Rattle.std.specs.List.{AllZip}
 use Rattle.std.proofs.lemmas.List.{length-take-le, append-nil}
 use Rattle.std.proofs.lemmas.List.Elements.{all_zip_more, AllZip-get_or, length_all_zip}
@@ -33,6 +33,14 @@ so_far_more {X} R old now i x y inside is step far =
           ∙ sym (append_assoc far.changed (y ∷ []) (drop (i + 1) old));
       each = all_zip_more R old far.changed i x y inside here far.each step;
     }
+
+-- what the change leaves of each element stays of all
+pub all_kept : {X Y : Type 0} (R : X → X → Type 0) (f : X → Y) → ((x y : X) → R x y → f y ≡ f x) → (old new : List X) → AllZip R old new
+    → map f new ≡ map f old
+all_kept R f same [] [] zip = refl
+all_kept R f same [] (y ∷ ys) zip = absurd zip
+all_kept R f same (x ∷ xs) [] zip = absurd zip
+all_kept R f same (x ∷ xs) (y ∷ ys) zip = ap (λ one. one ∷ map f ys) (same x y zip.0) ∙ ap (λ rest. f x ∷ rest) (all_kept R f same xs ys zip.1)
 
 pub all_changed : {X : Type 0} (R : X → X → Type 0) (old now : List X) (i : ℕ) → i ≡ length old → IsSoFar R old i now → AllZip R old now
 all_changed {X} R old now i end far =

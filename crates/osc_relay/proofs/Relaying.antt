@@ -131,47 +131,47 @@ all_sent address (one ∷ relayings) none =
     (sym (sum_by-cons (λ (one : Relaying). cond (is_failed one.sending) 1 0) one relayings) ∙ none)
 
 -- each outlet of a relay, after one more call
-pub each_relayed_more : {O : Type 0} (sent : O → Option (List (List ℕ))) (losses : O → ℕ) (address : List ℕ) (room room_after keep keep_after : ℕ)
+pub each_relayed_more : {O : Type 0} (sent : O → Option (List (List ℕ))) (losses tries : O → ℕ) (mark : O → List ℕ) (address : List ℕ) (room room_after keep keep_after : ℕ)
     (call : Called) (heard heard_after : Option (List ℕ)) (datagram : Option (List ℕ)) (old new : List O) → IsShort call
     → room_after ≡ room → keep_after ≡ keep → heard_after ≡ after_call keep (called_text call) heard
-    → datagram ≡ within room (relayed address call.message) → AllZip (Takes sent losses datagram) old new
+    → datagram ≡ within room (relayed address call.message) → AllZip (Takes sent losses tries mark datagram) old new
     → All (λ outlet. ∥ HasRelayed address room keep heard (sent outlet) (losses outlet) ∥₁) old
     → All (λ outlet. ∥ HasRelayed address room_after keep_after heard_after (sent outlet) (losses outlet) ∥₁) new
-each_relayed_more {O} sent losses address room room_after keep keep_after call heard heard_after datagram old new short rooms keeps hears fitting takes all =
+each_relayed_more {O} sent losses tries mark address room room_after keep keep_after call heard heard_after datagram old new short rooms keeps hears fitting takes all =
     let Before : O → Type 0 = λ outlet. ∥ HasRelayed address room keep heard (sent outlet) (losses outlet) ∥₁ in
     let After : O → Type 0 = λ outlet. ∥ HasRelayed address room keep heard_after (sent outlet) (losses outlet) ∥₁ in
-    let each : All After new = all_across (Takes sent losses datagram) Before After one_more old new all takes in
+    let each : All After new = all_across (Takes sent losses tries mark datagram) Before After one_more old new all takes in
     subst (λ (n : ℕ). All (λ outlet. ∥ HasRelayed address room_after n heard_after (sent outlet) (losses outlet) ∥₁) new) (sym keeps)
     (subst (λ (n : ℕ). All (λ outlet. ∥ HasRelayed address n keep heard_after (sent outlet) (losses outlet) ∥₁) new) (sym rooms) each)
   where
-    one_more : (before after : O) → ∥ HasRelayed address room keep heard (sent before) (losses before) ∥₁ → Takes sent losses datagram before after
+    one_more : (before after : O) → ∥ HasRelayed address room keep heard (sent before) (losses before) ∥₁ → Takes sent losses tries mark datagram before after
         → ∥ HasRelayed address room keep heard_after (sent after) (losses after) ∥₁
     one_more before after has took =
-        let takes : Takes sent losses (within room (relayed address call.message)) before after =
-        subst (λ (d : Option (List ℕ)). Takes sent losses d before after) fitting took in
+        let takes : Takes sent losses tries mark (within room (relayed address call.message)) before after =
+        subst (λ (d : Option (List ℕ)). Takes sent losses tries mark d before after) fitting took in
         ∥∥₁_map has (λ (one : HasRelayed address room keep heard (sent before) (losses before)).
         has_relayed_more address room keep call heard heard_after (sent before) (sent after) (losses before) (losses after) takes.sending short hears
         takes.if_none takes.has_sent takes.has_lost one)
 
 -- each outlet of a relay that has heard nothing, after a reset
-pub each_relayed_none : {O : Type 0} (sent : O → Option (List (List ℕ))) (losses : O → ℕ) (address : List ℕ) (room keep : ℕ) (heard : Option (List ℕ))
-    (old new : List O) → heard ≡ Some [] → AllZip (IsReset sent losses) old new
+pub each_relayed_none : {O : Type 0} (sent : O → Option (List (List ℕ))) (losses tries : O → ℕ) (mark : O → List ℕ) (address : List ℕ) (room keep : ℕ) (heard : Option (List ℕ))
+    (old new : List O) → heard ≡ Some [] → AllZip (IsReset sent losses tries mark) old new
     → All (λ outlet. ∥ HasRelayed address room keep heard (sent outlet) (losses outlet) ∥₁) new
-each_relayed_none {O} sent losses address room keep heard old new silent resets =
-    all_after (IsReset sent losses) (λ (outlet : O). ∥ HasRelayed address room keep heard (sent outlet) (losses outlet) ∥₁)
+each_relayed_none {O} sent losses tries mark address room keep heard old new silent resets =
+    all_after (IsReset sent losses tries mark) (λ (outlet : O). ∥ HasRelayed address room keep heard (sent outlet) (losses outlet) ∥₁)
     (λ before after reset. ∣ has_relayed_none address room keep heard (sent before) (sent after) (losses after) silent reset.none_sent reset.none_lost ∣₁)
     old new resets
 
 -- the same of one that has heard something, and forgets it
-pub each_relayed_reset : {O : Type 0} (sent : O → Option (List (List ℕ))) (losses : O → ℕ) (address : List ℕ) (room keep keep_after : ℕ)
+pub each_relayed_reset : {O : Type 0} (sent : O → Option (List (List ℕ))) (losses tries : O → ℕ) (mark : O → List ℕ) (address : List ℕ) (room keep keep_after : ℕ)
     (heard heard_after : Option (List ℕ)) (old new : List O) → heard_after ≡ option_map (λ _. []) heard
-    → All (λ outlet. ∥ HasRelayed address room keep heard (sent outlet) (losses outlet) ∥₁) old → AllZip (IsReset sent losses) old new
+    → All (λ outlet. ∥ HasRelayed address room keep heard (sent outlet) (losses outlet) ∥₁) old → AllZip (IsReset sent losses tries mark) old new
     → All (λ outlet. ∥ HasRelayed address room keep_after heard_after (sent outlet) (losses outlet) ∥₁) new
-each_relayed_reset {O} sent losses address room keep keep_after heard heard_after old new forgets all resets =
-    all_across (IsReset sent losses) (λ (outlet : O). ∥ HasRelayed address room keep heard (sent outlet) (losses outlet) ∥₁)
+each_relayed_reset {O} sent losses tries mark address room keep keep_after heard heard_after old new forgets all resets =
+    all_across (IsReset sent losses tries mark) (λ (outlet : O). ∥ HasRelayed address room keep heard (sent outlet) (losses outlet) ∥₁)
     (λ (outlet : O). ∥ HasRelayed address room keep_after heard_after (sent outlet) (losses outlet) ∥₁) one_reset old new all resets
   where
-    one_reset : (before after : O) → ∥ HasRelayed address room keep heard (sent before) (losses before) ∥₁ → IsReset sent losses before after
+    one_reset : (before after : O) → ∥ HasRelayed address room keep heard (sent before) (losses before) ∥₁ → IsReset sent losses tries mark before after
         → ∥ HasRelayed address room keep_after heard_after (sent after) (losses after) ∥₁
     one_reset before after has reset =
         ∥∥₁_map has (λ (one : HasRelayed address room keep heard (sent before) (losses before)).

@@ -1,5 +1,5 @@
 -- What a call of an outlet leaves.
-use Rattle.std.specs.Prelude.{◌≡◌, ℕ, ◌+◌, ◌-◌, ◌^◌, min, List, [], ◌∷◌, ◌++◌, Option, None}
+use Rattle.std.specs.Prelude.{◌≡◌, ℕ, ◌+◌, ◌-◌, ◌^◌, min, List, [], ◌∷◌, ◌++◌, Option, None, Some}
 use Rattle.std.specs.Prelude.{unwrap_or}
 use Rattle.std.specs.Option.{option_map}
 use Rattle.osc_relay.specs.declared.outlet.Sending.{Sending}
@@ -19,12 +19,20 @@ abbrev pub losses_after : Sending → ℕ → ℕ
 losses_after Sent losses = losses
 losses_after Failed losses = one_up losses
 
--- What each outlet does, by what it has sent, where it tells, and how many it has lost.
-module _ {O : Type 0} (sent : O → Option (List (List ℕ))) (losses : O → ℕ) where
+-- how many datagrams it was handed then: one more, where there is one
+abbrev pub tries_after : Option (List ℕ) → ℕ → ℕ
+tries_after None tries = tries
+tries_after (Some datagram) tries = one_up tries
+
+-- What each outlet does, by what it has sent, where it tells, how many it has lost, how many datagrams it was
+-- handed, and its mark.
+module _ {O : Type 0} (sent : O → Option (List (List ℕ))) (losses tries : O → ℕ) (mark : O → List ℕ) where
   -- it has forgotten both
   pub record IsReset (old new : O) : Type 0 where
     pub none_sent : sent new ≡ option_map (λ _. []) (sent old)
     pub none_lost : losses new ≡ 0
+    pub same_tries : tries new ≡ tries old
+    pub same_mark : mark new ≡ mark old
 
   -- it was handed a datagram, which it sent or lost; where there is none, it lost a message
   pub record Takes (datagram : Option (List ℕ)) (old new : O) : Type 0 where
@@ -32,3 +40,5 @@ module _ {O : Type 0} (sent : O → Option (List (List ℕ))) (losses : O → �
     pub if_none : datagram ≡ None → sending ≡ Failed
     pub has_sent : sent new ≡ after_sending sending (unwrap_or datagram []) (sent old)
     pub has_lost : losses new ≡ losses_after sending (losses old)
+    pub has_tried : tries new ≡ tries_after datagram (tries old)
+    pub has_mark : mark new ≡ mark old

@@ -84,6 +84,10 @@ impl Outlet for MemoryOutlet {
 
     ghost losses = { λ o. o.lost };
 
+    ghost tries = { λ o. o.made };
+
+    ghost mark = { λ o. o.fails.items };
+
     /// Keeps the count of the sends.
     fn reset(&mut self) {
         self.sent.clear();

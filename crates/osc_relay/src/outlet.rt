@@ -20,20 +20,32 @@ pub trait Outlet: Drop {
     /// How many were lost since the reset.
     ghost losses: { Self → ℕ };
 
+    /// How many datagrams it was handed since it was made. No call forgets any.
+    ghost tries: { Self → ℕ };
+
+    /// What no call changes and tells it from others, such as where its datagrams go.
+    ghost mark: { Self → List ℕ };
+
     /// Forgets what was sent and lost.
     fn reset(&mut self)
         ensures sent { sent self.new ≡ option_map (λ _. []) (sent self.old) }
-        ensures losses { losses self.new ≡ 0 };
+        ensures losses { losses self.new ≡ 0 }
+        ensures tries { tries self.new ≡ tries self.old }
+        ensures mark { mark self.new ≡ mark self.old };
 
     /// Sends the datagram, or counts it as lost.
     fn send(&mut self, datagram: &[u8]) -> Sending
         ensures sent { sent self.new ≡ after_sending result datagram.now (sent self.old) }
-        ensures losses { losses self.new ≡ losses_after result (losses self.old) };
+        ensures losses { losses self.new ≡ losses_after result (losses self.old) }
+        ensures tries { tries self.new ≡ one_up (tries self.old) }
+        ensures mark { mark self.new ≡ mark self.old };
 
     /// Counts a message as lost that isn't handed to `send`.
     fn lose(&mut self)
         ensures sent { sent self.new ≡ sent self.old }
-        ensures losses { losses self.new ≡ one_up (losses self.old) };
+        ensures losses { losses self.new ≡ one_up (losses self.old) }
+        ensures tries { tries self.new ≡ tries self.old }
+        ensures mark { mark self.new ≡ mark self.old };
 
     /// How many were lost since the reset; 2^64 - 1 is also given for more.
     fn lost(&self) -> u64

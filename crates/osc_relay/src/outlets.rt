@@ -7,7 +7,7 @@ ghost use Rattle.osc_relay.specs.Outlets.{IsReset, Takes};
 use crate::Outlet;
 
 pub(crate) fn reset_each<O: Outlet>(outlets: &mut [O])
-    ensures { AllZip (IsReset O.sent O.losses) outlets.old outlets.new }
+    ensures { AllZip (IsReset O.sent O.losses O.tries O.mark) outlets.old outlets.new }
 {
     for outlet in outlets.iter_mut() {
         outlet.reset();
@@ -17,7 +17,7 @@ pub(crate) fn reset_each<O: Outlet>(outlets: &mut [O])
 /// Hands each outlet the datagram that ends here; where it has no end, each has lost a message.
 pub(crate) fn send_each<O: Outlet>(outlets: &mut [O], space: &[u8], end: Option<usize>)
     requires { ForSome end (λ end. end ≤ length space.now) }
-    ensures { AllZip (Takes O.sent O.losses (option_map (λ end. take end space.now) end))
+    ensures { AllZip (Takes O.sent O.losses O.tries O.mark (option_map (λ end. take end space.now) end))
         outlets.old outlets.new }
 {
     for outlet in outlets.iter_mut() {
@@ -27,7 +27,7 @@ pub(crate) fn send_each<O: Outlet>(outlets: &mut [O], space: &[u8], end: Option<
 
 fn send_to<O: Outlet>(outlet: &mut O, space: &[u8], end: Option<usize>)
     requires { ForSome end (λ end. end ≤ length space.now) }
-    ensures { Takes O.sent O.losses (option_map (λ end. take end space.now) end)
+    ensures { Takes O.sent O.losses O.tries O.mark (option_map (λ end. take end space.now) end)
         outlet.old outlet.new }
 {
     match end {

@@ -45,7 +45,7 @@ impl<O: Outlet> Drop for Relay<O> {
 }
 
 impl<O: Outlet> Relay<O> {
-    ghost use Rattle.std.specs.Prelude.{◌≡◌, ◌≤◌, ◌<◌, IfOk, All, Some, []};
+    ghost use Rattle.std.specs.Prelude.{◌≡◌, ◌≤◌, ◌<◌, IfOk, All, map, Some, []};
     ghost use Rattle.std.specs.List.{AllZip};
     ghost use Rattle.osc_relay.specs.Outlets.{IsReset};
     ghost use Rattle.osc_relay.specs.Sent.{HasRelayed};
@@ -66,10 +66,10 @@ impl<O: Outlet> Relay<O> {
         ensures address { IfOk result (λ relay. relay.address ≡ address) }
         ensures room { IfOk result (λ relay. room_of relay ≡ room) }
         ensures keep { IfOk result (λ relay. ⟦<Relay<O> as Method>⟧.keep relay
-            ≡ record { most = keep; name = address }) }
+            ≡ record { most = keep; name = address; outlets = map O.mark relay.outlets.items }) }
         ensures heard { IfOk result (λ relay. ⟦<Relay<O> as Method>⟧.heard relay ≡ Some []) }
         ensures outlets { IfOk result
-            (λ relay. AllZip (IsReset O.sent O.losses) outlets.items relay.outlets.items) }
+            (λ relay. AllZip (IsReset O.sent O.losses O.tries O.mark) outlets.items relay.outlets.items) }
     {
         reset_each(&mut outlets);
         let mut space = vec![in alloc; 0; room]?;
@@ -141,7 +141,7 @@ fn after_pattern<'a>(message: &Message<'a>) -> &'a [u8]
 }
 
 impl<O: Outlet> Method for Relay<O> {
-    ghost use Rattle.std.specs.Prelude.{◌≡◌};
+    ghost use Rattle.std.specs.Prelude.{◌≡◌, map};
     ghost use Rattle.std.specs.List.{AllZip};
     ghost use Rattle.osc_method.specs.Calls.{call_bytes};
     ghost use Rattle.osc_method.specs.Heard.{after_call};
@@ -151,6 +151,7 @@ impl<O: Outlet> Method for Relay<O> {
     ghost keep = { λ r. record {
       most = (⟦<Trace as Method>⟧.keep r.trace).most;
       name = r.address;
+      outlets = map O.mark r.outlets.items;
     } };
 
     ghost heard = { λ r. ⟦<Trace as Method>⟧.heard r.trace };
@@ -164,10 +165,11 @@ impl<O: Outlet> Method for Relay<O> {
     fn invoke(&mut self, call: &Call<'_>)
         ensures keep { ⟦<Trace as Method>⟧.keep self.new.trace
             ≡ ⟦<Trace as Method>⟧.keep self.old.trace }
+        ensures marks { map O.mark self.new.outlets.items ≡ map O.mark self.old.outlets.items }
         ensures heard { ⟦<Trace as Method>⟧.heard self.new.trace
             ≡ after_call (⟦<Trace as Method>⟧.keep self.old.trace).most (call_bytes call.now)
             (⟦<Trace as Method>⟧.heard self.old.trace) }
-        ensures sends { AllZip (Takes O.sent O.losses (datagram_of self.old call.now.message))
+        ensures sends { AllZip (Takes O.sent O.losses O.tries O.mark (datagram_of self.old call.now.message))
             self.old.outlets.items self.new.outlets.items }
         ensures address { self.new.address ≡ self.old.address }
         ensures room { room_of self.new ≡ room_of self.old }

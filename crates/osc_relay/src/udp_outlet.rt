@@ -1,5 +1,6 @@
 //! The trusted edge to the network: an outlet that sends by UDP, of whose datagrams nothing is told.
 ghost use Rattle.std.specs.Prelude.{◌≡◌, None};
+ghost use Rattle.std.specs.Net.SockAddr.{sockaddr_in};
 
 use crate::{Losses, Outlet, Sending};
 use std::alloc::Global;
@@ -17,6 +18,7 @@ pub struct UdpOutlet {
     /// The socket, once it is bound.
     socket: Option<UdpSocket>,
     lost: u64,
+    tried: u64,
 }
 
 impl Drop for UdpOutlet {
@@ -27,6 +29,7 @@ impl Drop for UdpOutlet {
             shared: _,
             socket: _,
             lost: _,
+            tried: _,
         } = self;
     }
 }
@@ -37,6 +40,7 @@ impl UdpOutlet {
         ensures sent { ⟦<UdpOutlet as Outlet>⟧.sent result ≡ None }
         ensures losses { ⟦<UdpOutlet as Outlet>⟧.losses result ≡ 0 }
         ensures to { result.to ≡ to }
+        ensures mark { ⟦<UdpOutlet as Outlet>⟧.mark result ≡ sockaddr_in to }
     {
         UdpOutlet {
             rt: *rt,
@@ -44,12 +48,14 @@ impl UdpOutlet {
             shared: losses,
             socket: None,
             lost: 0,
+            tried: 0,
         }
     }
 
     /// Sends once, from the port, which is bound where none is yet: how many bytes were sent.
     fn send_out(&mut self, datagram: &[u8]) -> io::Result<usize>
         ensures lost { self.new.lost ≡ self.old.lost }
+        ensures tried { self.new.tried ≡ self.old.tried }
         ensures to { self.new.to ≡ self.old.to }
     {
         let socket = match self.socket.take() {
@@ -75,11 +81,17 @@ impl Outlet for UdpOutlet {
 
     ghost losses = { λ o. o.lost };
 
+    ghost tries = { λ o. o.tried };
+
+    /// The destination, as the system's calls take it.
+    ghost mark = { λ o. sockaddr_in o.to };
+
     fn reset(&mut self) {
         self.lost = 0;
     }
 
     fn send(&mut self, datagram: &[u8]) -> Sending {
+        self.tried = self.tried.saturating_add(1);
         match self.send_out(datagram) {
             Ok(count) if count == datagram.len() => Sending::Sent,
             _ => {

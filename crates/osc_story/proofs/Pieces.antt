@@ -205,6 +205,13 @@ malformed written came old has none = go old.standing has where
   go None (kept, no_entry) = subst (λ (l : List ℕ). HasNoHeader l 0) kept none
   go (Some standing) (caps, entries, rest, so) = absurd (none.none caps rest so.lawful so.kept)
 
+pub malformed_size : (came : List ℕ) (old : Following) → HasCome came old → HasNoHeader old.bytes 0 → header_size ≤ length old.bytes
+    → header_size ≤ length came
+malformed_size came old has none long = go old.standing has where
+  go : (standing : Option Standing) → HasComeTo came old standing → header_size ≤ length came
+  go None (kept, no_entry) = subst (λ (l : List ℕ). header_size ≤ length l) kept long
+  go (Some standing) (caps, entries, rest, so) = absurd (none.none caps rest so.lawful so.kept)
+
 pub too_long : Written → (came : List ℕ) (old : Following) → HasCome came old → IsPast old.bytes (old.passed + length old.bytes) → IsTooLong came
 too_long written came old has past =
     let (entries, so) = followed_to written came old past.left past.header old.standing has in
@@ -259,7 +266,7 @@ said written came old new End gone =
     (none_in_none written gone.caps (length (record_text gone.caps gone.entries)) gone.rest gone.stops)
 said written came old new (NotWhole place) gone =
     gone_so (λ caps at rest standing. HasNoEntry caps at rest) came new (NotWhole place) gone
-    (λ entry more can_be fits same. gone.stops.1 entry more can_be (omega (arith, fits, gone.before)) same)
+    (λ entry more can_be fits same. gone.stops.2 entry more can_be (omega (arith, fits, gone.before)) same)
 said written came old new (Disagrees place why) gone =
     gone_so (λ caps at rest standing. (header_size + new.passed ≡ at) × BeginsUnlike standing rest why) came new (Disagrees place why) gone
     (gone.total, gone.stops.1)

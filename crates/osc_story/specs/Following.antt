@@ -72,7 +72,8 @@ pub record IsTooLong (came : List ℕ) : Type 0 where
 -- what was done by a progress
 abbrev pub Progresses : Progress → List ℕ → Following → Following → Type 0
 Progresses progress.NoHeader came old new = (length came < header_size) × (new ≡ old)
-Progresses progress.Malformed came old new = HasNoHeader came 0 × (new ≡ old)
+Progresses progress.Malformed came old new =
+    (header_size ≤ length came) × HasNoHeader came 0 × (new ≡ old)
 Progresses progress.TooLong came old new = IsTooLong came × (new ≡ old)
 Progresses progress.CaughtUp came old new = HasCaughtUp came new
 Progresses (progress.Disagrees place why) came old new =

@@ -1,5 +1,5 @@
 -- What is seen of an entry, of what is left of a recording, and why it stops.
-use Rattle.std.specs.Prelude.{◌≡◌, ⊤, ℕ, ◌+◌, ◌≤◌, List, [], ◌++◌, length, Option, Some, None}
+use Rattle.std.specs.Prelude.{◌≡◌, ⊤, ℕ, ◌+◌, ◌<◌, ◌≤◌, List, [], ◌++◌, length, Option, Some, None}
 use Rattle.std.specs.Prelude.{Result}
 use Rattle.std.specs.Prelude.{MatchResult}
 use Rattle.std.specs.List.{AllByRecursion, flat_map}
@@ -60,7 +60,7 @@ pub record BeginsUnlike (standing : Standing) (rest : List ℕ) (why : Disagreem
 -- or one does that disagrees. Out of memory, what begins them can be seen later.
 abbrev pub StopsFor : Stop → Limits → Standing → ℕ → List ℕ → Type 0
 StopsFor End caps standing at rest = rest ≡ []
-StopsFor (NotWhole place) caps standing at rest = (place ≡ at) × HasNoEntry caps at rest
+StopsFor (NotWhole place) caps standing at rest = (place ≡ at) × (0 < length rest) × HasNoEntry caps at rest
 StopsFor (stop.Disagrees place why) caps standing at rest =
     (place ≡ at) × BeginsUnlike standing rest why
 StopsFor (stop.NoMemory place) caps standing at rest = place ≡ at

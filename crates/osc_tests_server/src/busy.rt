@@ -23,7 +23,7 @@ pub(crate) struct Slow {
 }
 
 impl Method for Slow {
-    ghost keep = { λ _. record { most = 0; name = [] } };
+    ghost keep = { λ _. record { most = 0; name = []; outlets = [] } };
 
     ghost heard = { λ _. None };
 

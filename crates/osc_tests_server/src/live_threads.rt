@@ -36,7 +36,7 @@ struct Gate {
 }
 
 impl Method for Gate {
-    ghost keep = { λ _. record { most = 0; name = [] } };
+    ghost keep = { λ _. record { most = 0; name = []; outlets = [] } };
 
     ghost heard = { λ _. None };
 

@@ -50,7 +50,7 @@ use Rattle.osc_player.proofs.Rising.{all_weaker, ascending_told, same_rising, ti
 
 -- a box of which nothing but its id is known
 abbrev named : ℕ → Told
-named id = record { id = id; keep = record { most = 0; name = [] }; heard = None }
+named id = record { id = id; keep = record { most = 0; name = []; outlets = [] }; heard = None }
 
 above_named : (id : ℕ) (ids : List ℕ) → list_all (nat_lt id) ids ≡ true → AllByRecursion (λ other. id < other.id) (map named ids)
 above_named id [] above = tt

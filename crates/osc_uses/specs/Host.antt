@@ -14,6 +14,6 @@ later_message id found call = if call.id == id then Some call.message else found
 abbrev pub TellsLevel : List ℕ → List Told → ℕ → Option ℕ → Type 0
 TellsLevel ids boxes id (Some level) = (bytes : List ℕ) × (length bytes ≡ 4)
     × (level ≡ from_be_bytes w32 bytes)
-    × Contains boxes (record { id = id; keep = record { most = 4; name = [] }; heard = Some bytes })
+    × Contains boxes (record { id = id; keep = record { most = 4; name = []; outlets = [] }; heard = Some bytes })
 TellsLevel ids boxes id None = Contains ids id
-    → Contains boxes (record { id = id; keep = record { most = 4; name = [] }; heard = Some [] })
+    → Contains boxes (record { id = id; keep = record { most = 4; name = []; outlets = [] }; heard = Some [] })

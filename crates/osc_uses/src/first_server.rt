@@ -55,7 +55,7 @@ impl Fader {
 }
 
 impl Method for Fader {
-    ghost keep = { λ _. record { most = 4; name = [] } };
+    ghost keep = { λ _. record { most = 4; name = []; outlets = [] } };
 
     ghost heard = { λ fader. Some (if fader.sent then fader.last else []) };
 

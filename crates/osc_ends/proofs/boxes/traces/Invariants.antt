@@ -6,7 +6,7 @@ use Rattle.osc_ends.proofs.boxes.traces.Given as goal
 abbrev pub invariant-loop-alloc : goal.invariant-loop-alloc
 invariant-loop-alloc l = record {
   few : length l.traces.items ≤ 8192;
-  keep : All (λ one. trace.ghosts.keep one ≡ record { most = 64; name = [] }) l.traces.items;
+  keep : All (λ one. trace.ghosts.keep one ≡ record { most = 64; name = []; outlets = [] }) l.traces.items;
   heard : All (λ one. trace.ghosts.heard one ≡ Some []) l.traces.items;
 }
 

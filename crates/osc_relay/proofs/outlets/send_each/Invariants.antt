@@ -6,4 +6,4 @@ use Rattle.osc_relay.proofs.outlets.send_each.Given as goal
 
 abbrev pub invariant-loop-outlet : goal.invariant-loop-outlet
 invariant-loop-outlet g l =
-    IsSoFar (Takes g.O.Outlet.sent g.O.Outlet.losses (option_map (λ end. take end l.space) l.end)) l.fn.outlets l.outlet-index l.outlets
+    IsSoFar (Takes g.O.Outlet.sent g.O.Outlet.losses g.O.Outlet.tries g.O.Outlet.mark (option_map (λ end. take end l.space) l.end)) l.fn.outlets l.outlet-index l.outlets

@@ -14,12 +14,12 @@ invariant_of-result-clause-relayed g c =
     let room = length (with_items c.in_ok-space.space c.write_start-start.new.space).items in
     let outlets : (with_items c.args.outlets c.reset_each.new.outlets).items ≡ c.reset_each.new.outlets =
     with_items_is c.args.outlets c.reset_each.new.outlets (omega arith) in
-    let resets : AllZip (IsReset g.O.Outlet.sent g.O.Outlet.losses) c.args.outlets.items c.reset_each.new.outlets =
-    subst (λ (l : List g.row.O.Denot). AllZip (IsReset g.O.Outlet.sent g.O.Outlet.losses) l c.reset_each.new.outlets) c.deref_mut.ensures.value
+    let resets : AllZip (IsReset g.O.Outlet.sent g.O.Outlet.losses g.O.Outlet.tries g.O.Outlet.mark) c.args.outlets.items c.reset_each.new.outlets =
+    subst (λ (l : List g.row.O.Denot). AllZip (IsReset g.O.Outlet.sent g.O.Outlet.losses g.O.Outlet.tries g.O.Outlet.mark) l c.reset_each.new.outlets) c.deref_mut.ensures.value
     c.reset_each.ensures in
     subst (λ (l : List g.row.O.Denot). All (λ outlet. ∥ HasRelayed c.args.address room trace.bytes.capacity (Some trace.bytes.items)
     (g.O.Outlet.sent outlet) (g.O.Outlet.losses outlet) ∥₁) l) (sym outlets)
-    (each_relayed_none g.O.Outlet.sent g.O.Outlet.losses c.args.address room trace.bytes.capacity (Some trace.bytes.items)
+    (each_relayed_none g.O.Outlet.sent g.O.Outlet.losses g.O.Outlet.tries g.O.Outlet.mark c.args.address room trace.bytes.capacity (Some trace.bytes.items)
     c.args.outlets.items c.reset_each.new.outlets c.in_ok-open.ensures.heard resets)
 
 pub invariant_of-result-clause-written : goal.invariant_of-result-clause-written

@@ -1,13 +1,15 @@
-use Rattle.std.proofs.Common.{◌≡◌, ℕ, ◌+◌, List, Option, length, ap, subst, ◌∙◌}
+use Rattle.std.proofs.Common.{◌≡◌, ℕ, ◌+◌, List, Option, length, ap, subst, ◌∙◌, arith}
 use Rattle.osc_record.specs.Reading.{HasNoHeader}
 use Rattle.osc_story.specs.Standings.{Standing}
 use Rattle.osc_story.specs.Following.{Following}
 use Rattle.osc_story.specs.KeptBytes.{Kept}
-use Rattle.osc_story.proofs.Pieces.{malformed, too_long, progressed, saw_same, past_same}
+use Rattle.osc_story.proofs.Pieces.{malformed, malformed_size, too_long, progressed, saw_same, past_same}
 use Rattle.osc_story.proofs.follower.Follower.follow.Goals as goal
 
 pub returns-in-Malformed : goal.returns-in-Malformed
 returns-in-Malformed c = λ came has. (
+  malformed_size came c.args.self.now has (subst (λ (l : List ℕ). HasNoHeader l 0) (c.bytes-2.ensures ∙ ap (λ (f : Following). f.bytes) c.self.view_is) c.in-Malformed.ensures.0)
+      (omega (arith, c.if-bytes.false, ap length (c.bytes.ensures ∙ ap (λ (f : Following). f.bytes) c.self.view_is))),
   malformed (record { header = c.sizes.ensures.header; entry = c.sizes.ensures.entry; differ = c.headers_differ.ensures }) came c.args.self.now has
       (subst (λ (l : List ℕ). HasNoHeader l 0) (c.bytes-2.ensures ∙ ap (λ (f : Following). f.bytes) c.self.view_is) c.in-Malformed.ensures.0),
   ap (λ (s : Option Standing). record { bytes = c.self.inside.kept.bytes; passed = c.self.inside.kept.passed; standing = s }) c.in-Malformed.ensures.1
