@@ -6,6 +6,7 @@ use crate::links::Links;
 use jiff_core::Offset;
 use jiff_fmt::offset::Parser;
 use osc_links::Bounds;
+use osc_show::{Paging, Showing, Zone};
 use osc_words::{Capacities, LiveCommand, live_command_of};
 use std::alloc::{AllocError, Global};
 use std::net::Ipv4Addr;
@@ -37,51 +38,6 @@ pub(crate) enum Taken {
     Zone,
     Port,
     Address,
-}
-
-/// Which recording a page shows, and where it is served.
-#[derive(Drop)]
-pub(crate) struct Paging {
-    /// In their order, each but the first with what carries the one before it on.
-    pub(crate) files: Vec<String>,
-    pub(crate) address: Ipv4Addr,
-    pub(crate) port: u16,
-}
-
-/// In which zone times are.
-#[derive(Clone, Copy)]
-pub(crate) enum Zone {
-    /// That of the machine.
-    Machine,
-    /// One that is so far ahead of UTC.
-    At(Offset),
-}
-
-/// Which recordings are to be shown, and how.
-#[derive(Drop)]
-pub(crate) struct Showing {
-    /// In the order in which they are shown.
-    pub(crate) files: Vec<String>,
-    pub(crate) zone: Zone,
-    /// Ticks and new callers have lines, too.
-    pub(crate) ticks: bool,
-    /// Refusals alone are shown.
-    pub(crate) quiet: bool,
-    /// Times are seconds since the first line.
-    pub(crate) relative: bool,
-    /// Lines have the number of who has handed in what they show.
-    pub(crate) callers: bool,
-    /// Texts, blobs and lists of addresses are uncut.
-    pub(crate) whole: bool,
-    /// Lines that say the same of an address again and again are told as one.
-    pub(crate) runs: bool,
-    /// The recording grows, and is shown until the program is stopped.
-    pub(crate) follow: bool,
-    /// From when to when it is shown, where that is said.
-    pub(crate) from: Option<String>,
-    pub(crate) to: Option<String>,
-    /// The pattern that selects lines, where one is said.
-    pub(crate) only: Option<String>,
 }
 
 /// What is done with the cues of a sheet.
