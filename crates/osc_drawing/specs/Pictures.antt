@@ -9,7 +9,7 @@ use Rattle.osc_drawing.specs.declared.heading.Heading.{Heading}
 use Rattle.osc_drawing.specs.declared.view.View.{View}
 use Rattle.osc_drawing.specs.Rows.{drawn_of, rows_of, all_rows, all_unheard, most_rows}
 use Rattle.osc_drawing.specs.Rows.{millis_of}
-use Rattle.osc_drawing.specs.Sketches.{Sketched}
+use Rattle.osc_drawing.specs.Sketches.{Sketched, end_stamp}
 use Rattle.osc_drawing.specs.Ties.{bundles_of}
 
 -- when the first tick came, or where the clock stands
@@ -57,7 +57,8 @@ part_of frame from to =
     }
 
 abbrev pub view_of : Sketched → Frame → View
-view_of sketch frame = record { frame = frame; begin = begin_of sketch }
+view_of sketch frame =
+    record { frame = frame; begin = begin_of sketch; end = end_stamp sketch }
 
 -- a picture has these rows and bundles, by marks
 pub record HasDrawn (view : View) (marks : List Mark) (picture : Picture) : Type 0 where

@@ -1,5 +1,5 @@
 -- The rows of a picture, by marks.
-use Rattle.std.specs.Prelude.{ℕ, ◌+◌, ◌*◌, ◌/◌, ◌&&◌, not, min, max, Bool, true}
+use Rattle.std.specs.Prelude.{ℕ, ◌+◌, ◌*◌, ◌/◌, ◌==◌, ◌&&◌, not, min, max, Bool, true}
 use Rattle.std.specs.Prelude.{false, nat_le, nat_lt, if◌then◌else◌, List, [], ◌∷◌, ◌++◌, map, take}
 use Rattle.std.specs.Prelude.{insert, Option, Some, None, unwrap_or}
 use Rattle.std.specs.List.{list_any, position_or_len}
@@ -29,6 +29,13 @@ millis_of moment = (moment * 1000 + 2_147_483_648) / 4_294_967_296
 abbrev pub at_of : View → Stamp → ℕ
 at_of view stamp =
     if view.frame.by_order then stamp.order else max (millis_of stamp.moment) view.begin
+
+-- Until when something stands that stood at the end of its recording: until then, or on where that
+-- is the end of the last one.
+abbrev pub until_of : View → Stamp → Option ℕ
+until_of view end =
+    if end.moment == view.end.moment && end.order == view.end.order then None
+    else Some (at_of view end)
 
 -- whether that is within the picture
 abbrev pub is_within : View → ℕ → Bool
@@ -166,10 +173,10 @@ with_form view mark Unheard drawn =
     also_waited view mark.came (Some (at_of view mark.at))
     (with_unheard view (at_of view mark.at) drawn)
 with_form view mark Crossed drawn = with_cross view (at_of view mark.at) drawn
-with_form view mark Waits drawn = also_waited view mark.came None drawn
+with_form view mark Waits drawn = also_waited view mark.came (until_of view mark.at) drawn
 with_form view mark Removed drawn =
     with_life view (life_of view mark (Some (at_of view mark.at))) drawn
-with_form view mark Stands drawn = with_life view (life_of view mark None) drawn
+with_form view mark Stands drawn = with_life view (life_of view mark (until_of view mark.at)) drawn
 
 -- one more mark, if it is of the address
 abbrev pub with_own : View → Mark → Drawn → Drawn

@@ -24,6 +24,7 @@ pub fn picture_of(
     let view = View {
         frame,
         begin: sketch.begin(),
+        end: sketch.end_stamp(),
     };
     let marks = sketch.marks();
     let rows = all_rows(alloc, marks)?;

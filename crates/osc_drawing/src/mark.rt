@@ -22,11 +22,11 @@ pub(crate) enum Form {
     Unheard,
     /// A message was discarded or refused.
     Crossed,
-    /// A message waits after the last entry.
+    /// A message waits after the last entry of its recording.
     Waits,
     /// The method was removed.
     Removed,
-    /// The method is there after the last entry.
+    /// The method is there after the last entry of its recording.
     Stands,
 }
 

@@ -106,9 +106,13 @@ fn add_mark(row: &mut Row, view: View, mark: &Mark) -> Result<(), AllocError>
             add_waited(&mut row.waits, view, mark.came, Some(at))
         }
         Form::Crossed => add_place(&mut row.crosses, view, at),
-        Form::Waits => add_waited(&mut row.waits, view, mark.came, None),
+        Form::Waits => add_waited(&mut row.waits, view, mark.came, view.until(mark.at)),
         Form::Removed => add_stay(&mut row.lives, view, life_of(view, mark, Some(at))),
-        Form::Stands => add_stay(&mut row.lives, view, life_of(view, mark, None)),
+        Form::Stands => add_stay(
+            &mut row.lives,
+            view,
+            life_of(view, mark, view.until(mark.at)),
+        ),
     }
 }
 

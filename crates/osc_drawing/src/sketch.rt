@@ -235,7 +235,8 @@ impl Sketch {
         }
     }
 
-    fn end_stamp(&self) -> Stamp
+    /// What is after all entries.
+    pub(crate) fn end_stamp(&self) -> Stamp
         ensures { result ≡ spec.end_stamp self.now }
     {
         Stamp {

@@ -5,11 +5,12 @@ ghost use Rattle.osc_drawing.specs.Rows as spec;
 use crate::mark::Stamp;
 use osc_picture::{Frame, Stay};
 
-/// From when to when a picture goes, and when its recording begins.
+/// From when to when a picture goes, when its first recording begins, and when its last one ends.
 #[derive(Clone, Copy)]
 pub(crate) struct View {
     pub(crate) frame: Frame,
     pub(crate) begin: u64,
+    pub(crate) end: Stamp,
 }
 
 impl View {
@@ -24,6 +25,17 @@ impl View {
             return stamp.order;
         }
         millis_of(stamp.moment).max(self.begin)
+    }
+
+    /// Until when something stands that stood at the end of its recording: until then, or on where that
+    /// is the last one.
+    pub(crate) fn until(self, end: Stamp) -> Option<u64>
+        ensures { result ≡ spec.until_of self end }
+    {
+        if end.moment == self.end.moment && end.order == self.end.order {
+            return None;
+        }
+        Some(self.at(end))
     }
 
     /// Whether that is within the picture.

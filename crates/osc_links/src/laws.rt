@@ -46,7 +46,7 @@ pub fn a_ticker_keeps_its_share<M: Method>()
 /// moment stays; and faults stand link by link.
 pub fn examples()
     ensures quiets { (holder : Holder) (here : List Entry) → PlaysTurns {M = ℕ}
-        (λ _. record { most = 0; name = [] }) (λ _. None) holder
+        (λ _. record { most = 0; name = []; outlets = [] }) (λ _. None) holder
         (record { count = 3; idle = 2 }) 0 0 (None ∷ None ∷ []) Idle (ended [] None) here here }
     ensures first { round_lines None 5 ≡ tick_line 5 ∷ pump_line ∷ [] }
     ensures same { round_lines (Some 5) 5 ≡ pump_line ∷ [] }

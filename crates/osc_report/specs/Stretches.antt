@@ -1,6 +1,6 @@
 -- The entries that are read and shown together: those up to and with the next tick or release, or all
 -- that are left.
-use Rattle.std.specs.Prelude.{◌≡◌, ℕ, ◌+◌, true, false, Bool, List, [], ◌∷◌, ◌++◌, length, map}
+use Rattle.std.specs.Prelude.{◌≡◌, ℕ, ◌+◌, ◌<◌, true, false, Bool, List, [], ◌∷◌, ◌++◌, length, map}
 use Rattle.std.specs.Prelude.{Option, Some, None}
 use Rattle.std.specs.List.{AllByRecursion}
 use Rattle.osc_model.specs.Limits.{Limits}
@@ -38,7 +38,7 @@ abbrev pub EndsSo : Shown → Limits → ℕ → List Entry → List ℕ → Typ
 EndsSo Stretch caps at entries rest = IsStretch entries
 EndsSo All caps at entries rest = GoesOn entries × (rest ≡ [])
 EndsSo (NotWhole place) caps at entries rest =
-    GoesOn entries × (place ≡ at) × HasNoEntry caps at rest
+    GoesOn entries × (place ≡ at) × (0 < length rest) × HasNoEntry caps at rest
 
 -- they were read of what was left
 pub record HasRead (old : Remaining) (entries : List Entry) (shown : Shown) (new : Remaining)
@@ -85,4 +85,4 @@ ReadsNext (Some All) left now before after clock next =
     ReadsNone left now before after clock next × (left.rest ≡ [])
 ReadsNext (Some (NotWhole place)) left now before after clock next =
     ReadsNone left now before after clock next × (place ≡ left.at)
-    × HasNoEntry left.caps left.at left.rest
+    × (0 < length left.rest) × HasNoEntry left.caps left.at left.rest

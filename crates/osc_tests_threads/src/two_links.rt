@@ -27,7 +27,7 @@ struct Signal {
 }
 
 impl Method for Signal {
-    ghost keep = { λ _. record { most = 0; name = [] } };
+    ghost keep = { λ _. record { most = 0; name = []; outlets = [] } };
 
     ghost heard = { λ _. None };
 

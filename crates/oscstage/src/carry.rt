@@ -1,17 +1,18 @@
 // The script that carries a recording on.
-ghost use Rattle.std.specs.Prelude.{◌≤◌, length, IfOk};
+ghost use Rattle.std.specs.Prelude.{◌≤◌, length};
 ghost use Rattle.osc_model.specs.Limits.{max_recording};
 
-use crate::report::{LimitFault, report_carry, report_limit, report_unread};
+use crate::report::{LimitFault, report_carry, report_limit};
 use crate::words::Serving;
 use osc_carry::{CarryFault, carry};
 use osc_console::Agenda;
-use osc_edge::{FileSource, StdSink};
+use osc_edge::StdSink;
 use osc_ends::status::{DONE, REFUSED};
-use osc_ends::{Whole, read_input, write_text};
+use osc_ends::write_text;
 use osc_packet::{MAX_PACKET, Packet};
-use osc_record::{Caps, Late, MAX_RECORDING, Unread};
+use osc_record::{Caps, Late, Unread};
 use osc_script::{Act, Line, Mode, Script, ScriptRefusal};
+use osc_show::read_recording;
 use osc_words::Capacities;
 use std::alloc::{AllocError, Global};
 
@@ -90,31 +91,6 @@ fn limit_fault(old: Caps, new: Capacities) -> Option<LimitFault> {
         return Some(LimitFault::Late);
     }
     None
-}
-
-/// The bytes of a recording; the `Err` inside is the status, where it can't be read, which is
-/// reported.
-pub(crate) fn read_recording(
-    rt: &HostRuntime,
-    file: &str,
-) -> Result<Result<Vec<u8>, u8>, AllocError>
-    ensures { IfOk result (λ read. IfOk read (λ bytes. length bytes.items ≤ max_recording)) }
-{
-    let alloc = rt.alloc();
-    let mut source = FileSource::at(rt, String::from_str(alloc, file)?);
-    match read_input(alloc, MAX_RECORDING as usize, &mut source) {
-        Ok(Whole::Bytes(bytes)) if bytes.len() <= MAX_RECORDING as usize => Ok(Ok(bytes)),
-        Ok(_) => {
-            eprintln!(rt;
-                "oscstage: {file} has over 1 GiB, which is more than a recording may have"
-            ).ok();
-            Ok(Err(REFUSED))
-        }
-        Err(status) => {
-            report_unread(rt, file);
-            Ok(Err(status))
-        }
-    }
 }
 
 /// The script, unless the recording is refused, which is reported.

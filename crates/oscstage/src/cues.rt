@@ -2,10 +2,8 @@
 use crate::bundle::{Timed, bundles_of};
 use crate::patch::read_patch;
 use crate::playback::play_sheet;
-use crate::recording::Page;
 use crate::report::{report_cues, report_long_sheet, report_moment};
 use crate::score::write_score;
-use crate::view::{civil_date, look_at, zone_offset};
 use crate::words::{Playing, Way};
 use jiff_core::Offset;
 use osc_cues::{MAX_SHEET, Setting, Sheet, SheetError};
@@ -15,6 +13,7 @@ use osc_ends::{Whole, read_input};
 use osc_packet::{MAX_PACKET, Packet};
 use osc_patch::{Patch, PatchMethod};
 use osc_pattern::Address;
+use osc_show::{Page, look_at, setting_at_offset, zone_offset};
 use osc_shown::{Answered, Arrival, Look, Route, day_line, day_number, unit_lines};
 use osc_words::default_capacities;
 use std::alloc::{AllocError, Global};
@@ -141,16 +140,6 @@ fn setting_for(rt: &HostRuntime, playing: &Playing) -> Option<Setting> {
 /// At this moment, in the zone of the machine.
 pub(crate) fn setting_at(rt: &HostRuntime, now: u64) -> Option<Setting> {
     setting_at_offset(now, zone_offset(rt, Some(now)).unwrap_or(Offset::UTC))
-}
-
-/// At this moment, where a clock is so far ahead of UTC.
-pub(crate) fn setting_at_offset(now: u64, offset: Offset) -> Option<Setting> {
-    Some(Setting {
-        now,
-        date: civil_date(now, offset)?,
-        offset,
-        skip: None,
-    })
 }
 
 fn refuse_long(rt: &HostRuntime) -> u8 {

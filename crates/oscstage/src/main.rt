@@ -8,38 +8,28 @@ mod bank;
 mod bundle;
 mod carry;
 mod cues;
-mod draw;
-mod follower;
 mod input;
 mod links;
 mod losses;
 mod moment;
-mod page;
 mod parts;
 mod patch;
 mod playback;
 mod prompt;
-mod recording;
 mod reel;
 mod report;
 mod score;
 mod show;
-mod tape;
 mod view;
-mod window;
 mod words;
 
 use crate::bank::open_bank;
 use crate::carry::{read_carried, write_script};
 use crate::cues::play_cues;
-use crate::draw::draw_recordings;
-use crate::follower::follow;
 use crate::links::Links;
 use crate::moment::print_moment;
-use crate::page::serve_page;
-use crate::parts::{is_size, is_there, least_size};
+use crate::parts::{is_size, least_size};
 use crate::patch::read_patch;
-use crate::recording::show_recordings;
 use crate::report::{
     report_help, report_routes, report_size, report_there, report_usage, report_wrong,
 };
@@ -47,6 +37,7 @@ use crate::show::{Begin, play};
 use crate::words::{Said, Serving, read_words};
 use osc_edge::command_words;
 use osc_ends::status::{DONE, NO_MEMORY, REFUSED, SINK_FAILED, USAGE};
+use osc_show::{draw_recordings, follow, is_there, serve_page, show_recordings};
 use std::alloc::{AllocError, Global};
 use std::process::ExitCode;
 use std::sync::Wait;
@@ -61,7 +52,8 @@ fn main(rt: HostRuntime) -> ExitCode {
 
 /// `threads` is the runtime too, which starts threads and waits only where `main` hands it on.
 fn run<W: Threads + Wait + Sync>(rt: &HostRuntime, threads: &W) -> Result<u8, AllocError> {
-    match read_words(rt.alloc(), command_words(rt)?)? {
+    let said = read_words(rt.alloc(), command_words(rt)?)?;
+    match &said {
         Said::Help => {
             report_help(rt);
             Ok(DONE)
@@ -70,18 +62,18 @@ fn run<W: Threads + Wait + Sync>(rt: &HostRuntime, threads: &W) -> Result<u8, Al
             report_usage(rt);
             Ok(USAGE)
         }
-        Said::Carry(file) => write_script(rt, &file),
-        Said::Play(playing) => play_cues(rt, threads, &playing),
-        Said::Moment(word) => print_moment(rt, &word),
-        Said::Show(showing) if showing.follow => follow(rt, threads, &showing),
-        Said::Show(showing) => show_recordings(rt, &showing),
-        Said::Draw(showing) => draw_recordings(rt, &showing),
-        Said::Page(paging) => serve_page(rt, threads, &paging),
+        Said::Carry(file) => write_script(rt, file),
+        Said::Play(playing) => play_cues(rt, threads, playing),
+        Said::Moment(word) => print_moment(rt, word),
+        Said::Show(showing) if showing.follow => follow(rt, threads, showing),
+        Said::Show(showing) => show_recordings(rt, showing),
+        Said::Draw(showing) => draw_recordings(rt, showing),
+        Said::Page(paging) => serve_page(rt, threads, paging),
         Said::Wrong(taken, word) => {
-            report_wrong(rt, taken, &word);
+            report_wrong(rt, *taken, word);
             Ok(USAGE)
         }
-        Said::Serve(serving) => serve(rt, threads, &serving),
+        Said::Serve(serving) => serve(rt, threads, serving),
     }
 }
 

@@ -1,11 +1,11 @@
 // A moment in words, and as a time tag.
 use crate::cues::setting_at;
-use crate::view::{time_of, zone_offset};
 use jiff_core::Offset;
 use jiff_fmt::temporal::DateTimePrinter;
 use osc_cues::read_moment;
 use osc_edge::system_moment;
 use osc_ends::status::{DONE, EDGE_FAILED, USAGE};
+use osc_show::{time_of, zone_offset};
 use std::alloc::AllocError;
 
 /// How many digits a time tag has.

@@ -1,8 +1,8 @@
-// The recordings of a show: the files, and at which size one gives way to the next.
+// The recordings of a show: at which size one gives way to the next, and which file that is.
 use crate::words::Serving;
+use osc_show::{is_there, part_name};
 use osc_words::Capacities;
-use std::alloc::{AllocError, Global};
-use std::fs;
+use std::alloc::AllocError;
 
 /// How many bytes what is carried on takes at most: so many, and so many for each method, each unit
 /// and each block (`osc_carry`, `carrying_is_small`).
@@ -47,15 +47,6 @@ pub(crate) fn is_size(serving: &Serving) -> bool {
     }
 }
 
-/// The name of the part with this number, counted from 1.
-pub(crate) fn part_name(alloc: Global, file: &str, part: u32) -> Result<String, AllocError> {
-    if part == 1 {
-        String::from_str(alloc, file)
-    } else {
-        format!(in alloc; "{file}.{part}")
-    }
-}
-
 /// The number after this one whose file isn't there.
 pub(crate) fn next_part(rt: &HostRuntime, file: &str, part: u32) -> Result<u32, AllocError> {
     for next in part..u32::MAX {
@@ -65,23 +56,4 @@ pub(crate) fn next_part(rt: &HostRuntime, file: &str, part: u32) -> Result<u32, 
         }
     }
     Ok(u32::MAX)
-}
-
-/// The name of the recording in which a show goes on after the one of this name.
-pub(crate) fn file_after(alloc: Global, file: &str) -> Result<String, AllocError> {
-    match file.rsplit_once('.') {
-        Some((first, part)) if !first.is_empty() => match part.parse::<u32>() {
-            Ok(part) if 2 <= part && part < u32::MAX => part_name(alloc, first, part + 1),
-            _ => part_name(alloc, file, 2),
-        },
-        _ => part_name(alloc, file, 2),
-    }
-}
-
-/// Whether there is a file of this name that holds bytes.
-pub(crate) fn is_there(rt: &HostRuntime, name: &str) -> bool {
-    match fs::metadata(rt, name) {
-        Ok(facts) => facts.is_file() && facts.len() > 0,
-        Err(_) => false,
-    }
 }

@@ -1,11 +1,11 @@
 // The recordings of a show, in files.
-use crate::parts::{next_part, part_name};
-use crate::report::report_part;
+use crate::parts::next_part;
 use crate::show::Shared;
 use osc_chain::{Reels, carried_most};
 use osc_console::MeteredSink;
 use osc_edge::FileSink;
 use osc_record::Caps;
+use osc_show::{part_name, report_part};
 use osc_stage::Ended;
 use std::alloc::AllocError;
 

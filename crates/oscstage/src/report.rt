@@ -1,13 +1,14 @@
 // What is reported on standard error, and the help.
 use crate::bank::{Bank, RouteFault, WrongRoute};
 use crate::parts::{NEVER, size_of};
-use crate::words::{Paging, Serving, Taken};
+use crate::words::{Serving, Taken};
 use jiff_core::Offset;
 use osc_carry::CarryFault;
 use osc_chain::SeamFault;
 use osc_cues::WrongLine;
 use osc_patch::PatchError;
 use osc_pattern::Address;
+use osc_show::{report_malformed, report_unlike};
 use osc_stage::Ended;
 use osc_words::Transport;
 use std::alloc::AllocError;
@@ -234,24 +235,6 @@ pub(crate) fn report_wrong(rt: &HostRuntime, taken: Taken, word: &str) {
     eprintln!(rt; "oscstage: {word} {words}").ok();
 }
 
-/// Reports that a page can't be served there.
-pub(crate) fn report_door(rt: &HostRuntime, paging: &Paging) {
-    let (address, port) = (paging.address, paging.port);
-    eprintln!(rt;
-        "oscstage: port {port} of {address} can't be had: another program may have it, or say another --port"
-    ).ok();
-}
-
-/// Reports where a page is served.
-pub(crate) fn report_page(rt: &HostRuntime, paging: &Paging) {
-    let (address, port) = (paging.address, paging.port);
-    let file = match paging.files.last() {
-        Some(file) => file.as_str(),
-        None => "nothing",
-    };
-    eprintln!(rt; "oscstage: http://{address}:{port}/ shows {file}, until Ctrl-C").ok();
-}
-
 /// Reports why a show doesn't go on in another recording.
 pub(crate) fn report_seam(rt: &HostRuntime, fault: SeamFault) {
     let why = match fault {
@@ -260,20 +243,6 @@ pub(crate) fn report_seam(rt: &HostRuntime, fault: SeamFault) {
         SeamFault::Unlike => "what was recorded can't be read",
     };
     eprintln!(rt; "oscstage: the show doesn't go on in another recording: {why}").ok();
-}
-
-/// Reports that a word is no time.
-pub(crate) fn report_time(rt: &HostRuntime, word: &str) {
-    eprintln!(rt;
-        "oscstage: {word} is no time: write 20:00, 20:00:05.5 or 2026-11-29T20:00:00"
-    ).ok();
-}
-
-/// Reports that a word is no pattern of addresses.
-pub(crate) fn report_pattern(rt: &HostRuntime, word: &str) {
-    eprintln!(rt;
-        "oscstage: {word} is no pattern: write /light/front or /light/*, with each [ and {{ closed"
-    ).ok();
 }
 
 /// Reports that a file that is to be written is there already.
@@ -311,23 +280,6 @@ pub(crate) fn report_kept(rt: &HostRuntime, file: &str, size: usize, ended: Ende
     }
 }
 
-/// Reports that a file can't be read.
-pub(crate) fn report_unread(rt: &HostRuntime, file: &str) {
-    eprintln!(rt; "oscstage: {file} can't be read").ok();
-}
-
-/// Reports that a file is no recording.
-pub(crate) fn report_malformed(rt: &HostRuntime, file: &str) {
-    eprintln!(rt; "oscstage: {file} is no recording of a server").ok();
-}
-
-/// Reports by which entry, counted from 0, a file isn't one of this server.
-pub(crate) fn report_unlike(rt: &HostRuntime, file: &str, entry: u32) {
-    eprintln!(rt;
-        "oscstage: {file} wasn't recorded by this server, as its entry {entry} shows"
-    ).ok();
-}
-
 /// By which limit of the words a show can't be carried on.
 #[derive(Clone, Copy)]
 pub(crate) enum LimitFault {
@@ -361,11 +313,6 @@ pub(crate) fn report_size(rt: &HostRuntime, least: u64, most: u32) {
     eprintln!(rt;
         "oscstage: with these limits --turn-over has to be from {least} to {most} bytes"
     ).ok();
-}
-
-/// Reports that the show goes on in another recording.
-pub(crate) fn report_part(rt: &HostRuntime, name: &str) {
-    eprintln!(rt; "oscstage: goes on in {name}").ok();
 }
 
 /// Reports what is listened to, which methods there are, and how long the recording lasts.

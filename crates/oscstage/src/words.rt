@@ -6,6 +6,7 @@ use crate::links::Links;
 use jiff_core::Offset;
 use jiff_fmt::offset::Parser;
 use osc_links::Bounds;
+use osc_show::{Paging, Showing, Zone};
 use osc_words::{Capacities, LiveCommand, live_command_of};
 use std::alloc::{AllocError, Global};
 use std::net::Ipv4Addr;
@@ -37,51 +38,6 @@ pub(crate) enum Taken {
     Zone,
     Port,
     Address,
-}
-
-/// Which recording a page shows, and where it is served.
-#[derive(Drop)]
-pub(crate) struct Paging {
-    /// In their order, each but the first with what carries the one before it on.
-    pub(crate) files: Vec<String>,
-    pub(crate) address: Ipv4Addr,
-    pub(crate) port: u16,
-}
-
-/// In which zone times are.
-#[derive(Clone, Copy)]
-pub(crate) enum Zone {
-    /// That of the machine.
-    Machine,
-    /// One that is so far ahead of UTC.
-    At(Offset),
-}
-
-/// Which recordings are to be shown, and how.
-#[derive(Drop)]
-pub(crate) struct Showing {
-    /// In the order in which they are shown.
-    pub(crate) files: Vec<String>,
-    pub(crate) zone: Zone,
-    /// Ticks and new callers have lines, too.
-    pub(crate) ticks: bool,
-    /// Refusals alone are shown.
-    pub(crate) quiet: bool,
-    /// Times are seconds since the first line.
-    pub(crate) relative: bool,
-    /// Lines have the number of who has handed in what they show.
-    pub(crate) callers: bool,
-    /// Texts, blobs and lists of addresses are uncut.
-    pub(crate) whole: bool,
-    /// Lines that say the same of an address again and again are told as one.
-    pub(crate) runs: bool,
-    /// The recording grows, and is shown until the program is stopped.
-    pub(crate) follow: bool,
-    /// From when to when it is shown, where that is said.
-    pub(crate) from: Option<String>,
-    pub(crate) to: Option<String>,
-    /// The pattern that selects lines, where one is said.
-    pub(crate) only: Option<String>,
 }
 
 /// What is done with the cues of a sheet.
@@ -262,16 +218,25 @@ fn split_words(alloc: Global, all: Vec<String>) -> Result<Split, AllocError> {
 fn take_word(split: &mut Split, word: String) -> Result<(), AllocError> {
     let takes = split.takes;
     split.takes = Takes::Nothing;
-    match (takes, word.as_str()) {
-        (Takes::Old, _) => split.old = Some(word),
-        (Takes::Size, _) => split.size = Some(word),
-        (Takes::Nothing, "--carry") => split.takes = Takes::Old,
-        (Takes::Nothing, "--turn-over") => split.takes = Takes::Size,
-        (Takes::Nothing, "--quiet") => split.flags.quiet = true,
-        (Takes::Nothing, "--force") => split.flags.force = true,
-        (Takes::Nothing, _) => split.words.push(word)?,
+    match takes {
+        Takes::Old => split.old = Some(word),
+        Takes::Size => split.size = Some(word),
+        Takes::Nothing if take_own_option(split, &word) => {}
+        Takes::Nothing => split.words.push(word)?,
     }
     Ok(())
+}
+
+/// Takes an option that `oscd serve` doesn't have, and answers whether the word is one.
+fn take_own_option(split: &mut Split, word: &str) -> bool {
+    match word {
+        "--carry" => split.takes = Takes::Old,
+        "--turn-over" => split.takes = Takes::Size,
+        "--quiet" => split.flags.quiet = true,
+        "--force" => split.flags.force = true,
+        _ => return false,
+    }
+    true
 }
 
 /// The size that was said, if one was; the `Err` says that the word is no number of bytes.
@@ -387,28 +352,60 @@ enum ShowTakes {
 fn take_show_word(read: &mut ShowWords, word: String) -> Result<(), AllocError> {
     let takes = read.takes;
     read.takes = ShowTakes::Option;
-    match (takes, word.as_str()) {
-        (ShowTakes::From, _) => read.showing.from = Some(word),
-        (ShowTakes::To, _) => read.showing.to = Some(word),
-        (ShowTakes::Only, _) => read.showing.only = Some(word),
-        (ShowTakes::Zone, _) => set_zone(read, word),
-        (ShowTakes::Option, "--utc") => read.showing.zone = Zone::At(Offset::UTC),
-        (ShowTakes::Option, "--ticks") => read.showing.ticks = true,
-        (ShowTakes::Option, "--quiet") => read.showing.quiet = true,
-        (ShowTakes::Option, "--relative") => read.showing.relative = true,
-        (ShowTakes::Option, "--callers") => read.showing.callers = true,
-        (ShowTakes::Option, "--whole") => read.showing.whole = true,
-        (ShowTakes::Option, "--runs") => read.showing.runs = true,
-        (ShowTakes::Option, "--follow") => read.showing.follow = true,
-        (ShowTakes::Option, "--from") => read.takes = ShowTakes::From,
-        (ShowTakes::Option, "--to") => read.takes = ShowTakes::To,
-        (ShowTakes::Option, "--only") => read.takes = ShowTakes::Only,
-        (ShowTakes::Option, "--zone") => read.takes = ShowTakes::Zone,
-        _ if is_option(&word) => read.is_wrong = true,
-        _ => {
-            read.showing.files.push(word)?;
-            read.takes = ShowTakes::More;
-        }
+    match takes {
+        ShowTakes::From => read.showing.from = Some(word),
+        ShowTakes::To => read.showing.to = Some(word),
+        ShowTakes::Only => read.showing.only = Some(word),
+        ShowTakes::Zone => set_zone(read, word),
+        ShowTakes::Option if take_show_option(read, &word) => {}
+        ShowTakes::Option | ShowTakes::More => take_show_file(read, word)?,
+    }
+    Ok(())
+}
+
+/// Takes an option, and answers whether the word is one.
+fn take_show_option(read: &mut ShowWords, word: &str) -> bool {
+    if let Some(takes) = takes_after(word) {
+        read.takes = takes;
+        return true;
+    }
+    take_show_flag(&mut read.showing, word)
+}
+
+/// What the word after an option is, where the option takes one.
+fn takes_after(option: &str) -> Option<ShowTakes> {
+    match option {
+        "--from" => Some(ShowTakes::From),
+        "--to" => Some(ShowTakes::To),
+        "--only" => Some(ShowTakes::Only),
+        "--zone" => Some(ShowTakes::Zone),
+        _ => None,
+    }
+}
+
+/// Takes an option that takes no word, and answers whether the word is one.
+fn take_show_flag(showing: &mut Showing, word: &str) -> bool {
+    match word {
+        "--utc" => showing.zone = Zone::At(Offset::UTC),
+        "--ticks" => showing.ticks = true,
+        "--quiet" => showing.quiet = true,
+        "--relative" => showing.relative = true,
+        "--callers" => showing.callers = true,
+        "--whole" => showing.whole = true,
+        "--runs" => showing.runs = true,
+        "--follow" => showing.follow = true,
+        _ => return false,
+    }
+    true
+}
+
+/// Takes a FILE; what looks like an option is none.
+fn take_show_file(read: &mut ShowWords, word: String) -> Result<(), AllocError> {
+    if is_option(&word) {
+        read.is_wrong = true;
+    } else {
+        read.showing.files.push(word)?;
+        read.takes = ShowTakes::More;
     }
     Ok(())
 }
@@ -471,15 +468,24 @@ fn paging_of(alloc: Global, words: Vec<String>) -> Result<Said, AllocError> {
 }
 
 fn take_page_word(read: &mut PageWords, word: String) -> Result<(), AllocError> {
-    match (read.takes.take(), word.as_str()) {
-        (Some(Taken::Port), _) => set_port(read, word),
-        (Some(_), _) => set_address(read, word),
-        (None, "--port") => read.takes = Some(Taken::Port),
-        (None, "--address") => read.takes = Some(Taken::Address),
-        (None, _) if is_option(&word) => read.is_wrong = true,
-        (None, _) => read.paging.files.push(word)?,
+    match read.takes.take() {
+        Some(Taken::Port) => set_port(read, word),
+        Some(_) => set_address(read, word),
+        None if take_page_option(read, &word) => {}
+        None if is_option(&word) => read.is_wrong = true,
+        None => read.paging.files.push(word)?,
     }
     Ok(())
+}
+
+/// Takes an option, and answers whether the word is one.
+fn take_page_option(read: &mut PageWords, word: &str) -> bool {
+    match word {
+        "--port" => read.takes = Some(Taken::Port),
+        "--address" => read.takes = Some(Taken::Address),
+        _ => return false,
+    }
+    true
 }
 
 /// Sets the port, or keeps the word where it is none.
@@ -557,18 +563,24 @@ fn take_play_word(read: &mut PlayWords, word: String) -> Result<(), AllocError> 
     if read.takes {
         read.takes = false;
         read.from = Some(word);
-        return Ok(());
+    } else if !take_play_option(read, &word) {
+        read.names.push(word)?;
     }
-    match word.as_str() {
+    Ok(())
+}
+
+/// Takes an option, also one that there isn't, and answers whether the word is one.
+fn take_play_option(read: &mut PlayWords, word: &str) -> bool {
+    match word {
         "--check" => set_way(read, Way::Check),
         "--as-score" => set_way(read, Way::Score),
         "--skip" => read.skip = true,
         "--force" => read.force = true,
         "--from" => read.takes = true,
-        _ if is_option(&word) => read.is_wrong = true,
-        _ => read.names.push(word)?,
+        _ if word.starts_with("--") => read.is_wrong = true,
+        _ => return false,
     }
-    Ok(())
+    true
 }
 
 /// Another way than the one that was said before is wrong.

@@ -1,5 +1,5 @@
 // From when to when a recording is shown.
-use crate::cues::setting_at_offset;
+use crate::view::setting_at_offset;
 use jiff_core::Offset;
 use osc_cues::read_moment;
 

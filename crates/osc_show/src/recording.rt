@@ -2,12 +2,12 @@
 ghost use Rattle.std.specs.Prelude.{◌≤◌, length};
 ghost use Rattle.osc_model.specs.Limits.{max_recording};
 
-use crate::carry::read_recording;
+use crate::asked::{Showing, Zone};
+use crate::files::read_recording;
 use crate::follower::moment_of;
 use crate::report::{report_malformed, report_pattern, report_time, report_unlike};
 use crate::view::{look_at, zone_offset};
 use crate::window::Window;
-use crate::words::{Showing, Zone};
 use jiff_core::Offset;
 use osc_edge::StdSink;
 use osc_ends::status::{DONE, REFUSED, USAGE};
@@ -53,7 +53,7 @@ impl View {
 }
 
 /// Shows the recordings one after another, each as far as it is whole, up to one that is refused.
-pub(crate) fn show_recordings(rt: &HostRuntime, showing: &Showing) -> Result<u8, AllocError> {
+pub fn show_recordings(rt: &HostRuntime, showing: &Showing) -> Result<u8, AllocError> {
     let mut view = None;
     for file in &showing.files {
         let status = show_recording(rt, showing, file, &mut view)?;
@@ -256,7 +256,7 @@ pub(crate) fn look_for(rt: &HostRuntime, showing: &Showing, first: Option<u64>) 
 
 /// Lines that are to be written, and how it went.
 #[derive(Drop)]
-pub(crate) struct Page {
+pub struct Page {
     out: StdSink,
     text: Vec<u8>,
     status: u8,
@@ -264,7 +264,7 @@ pub(crate) struct Page {
 
 impl Page {
     /// Nothing is to be written yet. Takes no memory.
-    pub(crate) fn open(rt: &HostRuntime) -> Page {
+    pub fn open(rt: &HostRuntime) -> Page {
         Page {
             out: StdSink::open(rt),
             text: Vec::new(rt.alloc()),
@@ -273,13 +273,13 @@ impl Page {
     }
 
     /// Adds lines, and writes them if they are many.
-    pub(crate) fn add(&mut self, lines: &[u8]) -> Result<(), AllocError> {
+    pub fn add(&mut self, lines: &[u8]) -> Result<(), AllocError> {
         self.text.extend_from_slice(lines)?;
         self.turn();
         Ok(())
     }
 
-    pub(crate) fn alloc(&self) -> Global {
+    pub fn alloc(&self) -> Global {
         *self.text.allocator()
     }
 
@@ -304,7 +304,7 @@ impl Page {
     }
 
     /// Writes what is left, and tells how it went.
-    pub(crate) fn close(mut self) -> u8 {
+    pub fn close(mut self) -> u8 {
         self.write();
         self.status
     }

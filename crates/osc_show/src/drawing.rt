@@ -2,10 +2,10 @@
 ghost use Rattle.std.specs.Prelude.{◌≤◌, length};
 ghost use Rattle.osc_model.specs.Limits.{max_recording};
 
-use crate::carry::read_recording;
+use crate::asked::Showing;
+use crate::files::read_recording;
 use crate::recording::{Judged, judge, offset_for, window_for};
 use crate::window::Window;
-use crate::words::Showing;
 use jiff_core::Offset;
 use osc_drawing::{DrawFault, Heading, Sketch, entries_of, heading_of, picture_of, title_of};
 use osc_edge::StdSink;
@@ -28,7 +28,7 @@ struct Drawing {
 
 /// Writes a picture of the recordings, which go on from one another, each as far as it is whole,
 /// unless one is refused.
-pub(crate) fn draw_recordings(rt: &HostRuntime, showing: &Showing) -> Result<u8, AllocError> {
+pub fn draw_recordings(rt: &HostRuntime, showing: &Showing) -> Result<u8, AllocError> {
     let mut drawn = None;
     for file in &showing.files {
         match draw_recording(rt, file, drawn)? {

@@ -1,7 +1,7 @@
 // Serves a page in the browser that shows a recording while it grows.
+use crate::asked::Paging;
 use crate::report::{report_door, report_malformed, report_page, report_unread};
 use crate::tape::Tape;
-use crate::words::Paging;
 use osc_board::Watcher;
 use osc_door::{TcpDoor, TcpVisitor};
 use osc_ends::status::{EDGE_FAILED, REFUSED, SOURCE_FAILED, USAGE};
@@ -38,7 +38,7 @@ enum Look {
 }
 
 /// Serves the page until the program is stopped.
-pub(crate) fn serve_page<W: Wait>(
+pub fn serve_page<W: Wait>(
     rt: &HostRuntime,
     threads: &W,
     paging: &Paging,

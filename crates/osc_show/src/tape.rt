@@ -1,5 +1,5 @@
 // The recordings of a show, which are read one after another while they grow.
-use crate::parts::{file_after, is_there};
+use crate::files::{file_after, is_there};
 use osc_edge::{FileSource, Source, Taken};
 use std::alloc::AllocError;
 

@@ -2,10 +2,10 @@
 ghost use Rattle.std.specs.Prelude.{◌≤◌, length, IfOk};
 ghost use Rattle.osc_model.specs.Limits.{max_recording};
 
+use crate::asked::Showing;
 use crate::recording::{Page, look_for, show_all};
 use crate::report::{report_malformed, report_part, report_unread};
 use crate::tape::Tape;
-use crate::words::Showing;
 use osc_ends::status::{DONE, REFUSED, SOURCE_FAILED, USAGE};
 use osc_record::{Answer, Entry, Event, HEADER_SIZE, Late, MAX_RECORDING, Unread};
 use osc_report::{Options, Reporter};
@@ -24,11 +24,7 @@ const PIECES: u32 = 32_768;
 
 /// Shows a recording while it grows, and those in which the show goes on, until the program is stopped.
 /// A line stands once its moment is known, at the next tick or release.
-pub(crate) fn follow<W: Wait>(
-    rt: &HostRuntime,
-    threads: &W,
-    showing: &Showing,
-) -> Result<u8, AllocError> {
+pub fn follow<W: Wait>(rt: &HostRuntime, threads: &W, showing: &Showing) -> Result<u8, AllocError> {
     let Some(mut tape) = Tape::open(rt, &showing.files)? else {
         return Ok(USAGE);
     };
