@@ -22,34 +22,33 @@ function octal(text,   i, c, done) {
     return done
 }
 
-function times(count, text,   half) {
-    if (count < 1) return ""
-    half = times(int(count / 2), text)
-    return half half (count % 2 ? text : "")
-}
-
-# The same of bytes that are written as digits: a word N*DIGITS stands for the digits N times.
-function bytes(text,   i, k, count, words, digits, part, at, done) {
+# Adds bytes that are written as digits: a word N*DIGITS stands for the digits N times.
+function bytes(file, text,   i, k, count, words, digits, format, at) {
     count = split(tolower(text), words, " ")
     for (i = 1; i <= count; i++) {
         at = index(words[i], "*")
         digits = substr(words[i], at + 1)
         if (digits !~ /^[0-9a-f]*$/ || length(digits) % 2) wrong("no bytes: " words[i])
-        part = ""
+        format = ""
         for (k = 1; k < length(digits); k += 2)
-            part = part sprintf("\\%03o", 16 * value[substr(digits, k, 1)] + value[substr(digits, k + 1, 1)])
-        done = done (at ? times(substr(words[i], 1, at - 1), part) : part)
+            format = format sprintf("\\%03o", 16 * value[substr(digits, k, 1)] + value[substr(digits, k + 1, 1)])
+        if (at) many(file, substr(words[i], 1, at - 1), format)
+        else print "put " file " '" format "'"
     }
-    return done
+}
+
+function many(file, count, format) {
+    if (count !~ /^[0-9]+$/) wrong("no number of times: " count)
+    print "many " file " " count " '" format "'"
 }
 
 # Adds to a file of the row what one line says, where `how` is the byte after the mark.
 function put(file, how, text,   at) {
     if (how == "" || how == " ") print "put " file " '" octal(text) "\\012'"
     else if (how == "~") print "put " file " '" octal(text) "'"
-    else if (how == "x") print "put " file " '" bytes(text) "'"
+    else if (how == "x") bytes(file, text)
     else if (how == "-") print "whole " file " '" text "'"
-    else if (how == "*" && (at = index(text, " "))) print "put " file " '" times(substr(text, 1, at - 1), octal(substr(text, at + 1))) "'"
+    else if (how == "*" && (at = index(text, " "))) many(file, substr(text, 1, at - 1), octal(substr(text, at + 1)))
     else wrong("no line of a row: " $0)
 }
 
