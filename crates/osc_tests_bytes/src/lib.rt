@@ -1,5 +1,5 @@
-//! Tests of the readers, the writers, the tables of the server, the turn, and the links, clocks, files and streams. Each
-//! module is named after the crate or the call that it tries.
+//! Tests of what no program shows: atoms and messages that are built, the rules of addresses, the turn, and the links, clocks, files
+//! and streams. Each module is named after the crate or the call that it tries. What a program prints is tested by tests/rows.
 #![tactic(auto)]
 
 #[cfg(test)]
@@ -11,18 +11,8 @@ mod files;
 #[cfg(test)]
 mod message;
 #[cfg(test)]
-mod method;
-#[cfg(test)]
-mod packet;
-#[cfg(test)]
 mod pattern;
 #[cfg(test)]
-mod pool;
-#[cfg(test)]
-mod queue;
-#[cfg(test)]
 mod streams;
-#[cfg(test)]
-mod tree;
 #[cfg(test)]
 mod turn;

@@ -1,7 +1,4 @@
 // Packets over a stream, from pieces, from memory and from a connection.
-ghost use Rattle.std.specs.Prelude.{◌≡◌, ◌+◌, ◌≤◌, ◌<◌, ◌^◌, length, IfOk};
-ghost use Rattle.osc_stream.specs.Feeding.{taken};
-
 use crate::edges::next;
 use osc_edge::{Datagram, MemorySource, Source, Taken, TcpSource};
 use osc_stream::{BufferedSource, Fed, Stream, StreamLink, StreamState};
@@ -56,67 +53,6 @@ fn a_stream_leaves_what_is_after_a_packet(rt: HostRuntime) -> Result<(), Fail> {
             }
         )
     );
-    Ok(())
-}
-
-/// Hands in a piece, of which a packet may be taken, and puts that after those before. Says how many bytes were taken.
-fn feed(stream: &mut Stream, piece: &[u8], packets: &mut Vec<u8>) -> Result<usize, AllocError>
-    requires { taken stream.old < 2 ^ 63 }
-    ensures within { IfOk result (λ count. count ≤ length piece.now) }
-    ensures counted { IfOk result (λ count. taken stream.new ≡ taken stream.old + count) }
-{
-    let (count, fed) = stream.take(piece);
-    if let Fed::Ready = fed {
-        packets.extend_from_slice(stream.packet())?;
-        packets.extend_from_slice(b"|")?;
-    }
-    Ok(count)
-}
-
-/// Hands in a piece that has two packets at most.
-fn feed_all(stream: &mut Stream, piece: &[u8], packets: &mut Vec<u8>) -> Result<(), AllocError>
-    requires { taken stream.old + length piece.now < 2 ^ 63 }
-    ensures { IfOk result (λ _. taken stream.new ≤ taken stream.old + length piece.now) }
-{
-    let first = feed(stream, piece, packets)?;
-    let rest = &piece[first..];
-    let second = feed(stream, rest, packets)?;
-    feed(stream, &rest[second..], packets)?;
-    Ok(())
-}
-
-/// The packets of the pieces, a bar after each.
-fn packets_of(
-    alloc: Global,
-    first: &[u8],
-    second: &[u8],
-    third: &[u8],
-) -> Result<Vec<u8>, AllocError>
-    requires first { length first.now ≤ 20 }
-    requires second { length second.now ≤ 20 }
-    requires third { length third.now ≤ 20 }
-{
-    let mut stream = Stream::open(alloc)?;
-    let mut packets = Vec::new(alloc);
-    feed_all(&mut stream, first, &mut packets)?;
-    feed_all(&mut stream, second, &mut packets)?;
-    feed_all(&mut stream, third, &mut packets)?;
-    Ok(packets)
-}
-
-#[test]
-fn however_bytes_are_cut_their_packets_are_the_same(rt: HostRuntime) -> Result<(), Fail> {
-    for first in 0..=TWO.len() {
-        for second in first..=TWO.len() {
-            let packets = packets_of(
-                rt.alloc(),
-                &TWO[..first],
-                &TWO[first..second],
-                &TWO[second..],
-            )?;
-            assert_eq!(rt; packets.as_slice(), b"/a\0\0|/a\0\0,\0\0\0|".as_slice());
-        }
-    }
     Ok(())
 }
 

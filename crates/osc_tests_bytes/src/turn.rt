@@ -1,13 +1,12 @@
 // Rows of the turn.
-ghost use Rattle.std.specs.Prelude.{◌≡◌, ℕ, ◌^◌, ◌<◌, ◌≤◌, true, List, [], ◌∷◌, ◌++◌, map, length, vec_len, slice_index_or, Some, IfOk, IfSome};
+ghost use Rattle.std.specs.Prelude.{◌≡◌, ℕ, ◌^◌, ◌<◌, ◌≤◌, true, List, [], ◌∷◌, ◌++◌, map, length, vec_len, Some, IfOk, IfSome};
 ghost use Rattle.std.specs.Option.{ForSome};
-ghost use Rattle.osc_turn.specs.History.{texts, own};
+ghost use Rattle.osc_turn.specs.History.{own};
 ghost use Rattle.osc_turn.specs.Rule.{opening, number_of};
 ghost use Rattle.osc_turn.specs.Passes.{view, IsPassOf};
 
 use osc_turn::{GuestRefusal, Job, Kept, Pass, StillOut, Tried, Turn};
 use std::alloc::{AllocError, Global};
-use std::snapshot::Snapshot;
 use std::sync::Wait;
 use std::test::Fail;
 
@@ -177,54 +176,6 @@ fn told_of_two<R: Wait>(
         return Some(turn.meet(pass, guest));
     }
     None
-}
-
-// Counts the bytes of the first line. The pass has seen it, so it is there.
-#[derive(Drop)]
-struct MeasureFirst {
-    was: Snapshot<Pass>,
-    bytes: usize,
-    ghost seen: { 0 < length (view was.value).seen },
-}
-
-impl Job<Log> for MeasureFirst {
-    ghost base_kind = { λ j. [] };
-
-    ghost base = { λ j. texts (view j.was.value).seen };
-
-    ghost did = { λ j j' before after. (after ≡ before)
-        × (length (slice_index_or before 0 []) ≡ j'.bytes) };
-
-    fn run(&mut self, state: &mut Log) -> bool {
-        self.bytes = state.lines[0].len();
-        false
-    }
-}
-
-// What a pass has seen stays so.
-fn measure_first<R: Wait>(rt: &R, turn: &Turn<Log>, pass: Pass) -> (Pass, usize)
-    requires ours { IsPassOf turn.now pass }
-    requires kind { (view pass).kind ≡ [] }
-    requires seen { 0 < length (view pass).seen }
-    ensures ours { IsPassOf turn.now result.0 }
-    ensures first { length (slice_index_or (texts (view pass).seen) 0 []) ≡ result.1 }
-{
-    let mut job = MeasureFirst {
-        was: Snapshot::of(&pass),
-        bytes: 0,
-    };
-    let (pass, _) = turn.act(rt, pass, &mut job);
-    (pass, job.bytes)
-}
-
-#[test]
-fn a_job_relies_on_what_its_pass_has_seen(rt: HostRuntime) -> Result<(), Fail> {
-    let (turn, pass) = opened(rt.alloc())?;
-    let (pass, ran) = turn.act(&rt, pass, &mut appending(vec![in rt.alloc(); 1, 2, 3]?));
-    assert!(rt; ran);
-    let (_, bytes) = measure_first(&rt, &turn, pass);
-    assert_eq!(rt; bytes, 3);
-    Ok(())
 }
 
 #[test]

@@ -1,7 +1,7 @@
 // What a host on one thread reads of a release.
 use crate::servers::with_fader;
-use crate::tables::{Answer, submitted};
-use osc_core::{Called, Core, Releasing};
+use osc_core::{Called, Core, Releasing, Submitted};
+use osc_packet::{MAX_PACKET, Packet};
 use osc_uses::{Fader, HostRound, call_at, fader_level, last_message, play_round};
 use std::test::*;
 
@@ -15,6 +15,11 @@ const SECOND: Called<'static> = Called {
     method: 0,
     message: b"/a\0\0,i\0\0\0\0\0\x02",
 };
+
+fn submitted(core: &mut Core<Fader>, packet: &Packet<'_>) -> Submitted {
+    let _ = core.callers();
+    core.submit(0, packet)
+}
 
 fn round(core: &mut Core<Fader>) -> HostRound {
     play_round(core)
@@ -33,7 +38,13 @@ fn reads(core: &Core<Fader>) -> (Option<Called<'_>>, Option<&[u8]>, Option<u32>)
 fn a_host_reads_the_calls_of_a_release(rt: HostRuntime) -> Result<(), Fail> {
     let mut core = with_fader(rt.alloc(), b"/a")?;
     assert!(rt; reads(&core) == (None, None, None));
-    assert!(rt; submitted(&mut core, TWICE) == Answer::Number(0));
+    let packet = Packet::check(TWICE, MAX_PACKET).ok().ok_or("a packet")?;
+    let queued = Submitted::Queued {
+        first: 0,
+        count: 1,
+        late: 0,
+    };
+    assert!(rt; submitted(&mut core, &packet) == queued);
     let released = Releasing::Released { unit: 0, calls: 2 };
     assert_eq!(rt;
         round(&mut core),

@@ -1,19 +1,15 @@
-//! Tests of the sequential server and of the server of many callers, over their public calls, of watchers, and of the pages of
-//! `osc_uses`, each in a module named after the page.
+//! Tests of what no program shows of the sequential server and of the server of many callers, of watchers, and of the pages of
+//! `osc_uses`, each in a module named after the page. The tables of the server are filled by tests/rows.
 #![tactic(auto)]
 
 #[cfg(test)]
 mod busy;
-#[cfg(test)]
-mod busy_turn;
 #[cfg(test)]
 mod core_calls;
 #[cfg(test)]
 mod first_server;
 #[cfg(test)]
 mod host_round;
-#[cfg(test)]
-mod late;
 #[cfg(test)]
 mod light;
 #[cfg(test)]
@@ -32,8 +28,6 @@ mod printed_recording;
 mod refused_packet;
 #[cfg(test)]
 mod servers;
-#[cfg(test)]
-mod tables;
 #[cfg(test)]
 mod timed_bundle;
 #[cfg(test)]
