@@ -139,7 +139,7 @@ pub moment_is : (shown : Shown) (caps : Limits) (at : ℕ) (standing : Standing)
 moment_is Stretch caps at standing entries rest (front, last, on, ends, is) =
     subst (λ (l : List Entry). moment_of standing l ≡ clock_after standing.clock l) (sym is) (moment_stretch standing front last on ends)
 moment_is All caps at standing entries rest (on, none) = moment_all standing entries on
-moment_is (NotWhole place) caps at standing entries rest (on, place_is, nothing) = moment_all standing entries on
+moment_is (NotWhole place) caps at standing entries rest (on, place_is, some, nothing) = moment_all standing entries on
 
 steady : (shown : Shown) (caps : Limits) (at : ℕ) (standing : Standing) (entries : List Entry) (rest : List ℕ) (moment : ℕ) → EndsSo shown caps at entries rest
     → moment_of standing entries ≡ moment → Steady moment standing entries
@@ -147,7 +147,7 @@ steady Stretch caps at standing entries rest moment (front, last, on, ends, is) 
     subst (λ (l : List Entry). Steady moment standing l) (sym is)
     (steady_stretch moment standing front last on (subst (λ (l : List Entry). moment_of standing l ≡ moment) is same))
 steady All caps at standing entries rest moment (on, none) same = steady_all moment standing entries on same
-steady (NotWhole place) caps at standing entries rest moment (on, place_is, nothing) same = steady_all moment standing entries on same
+steady (NotWhole place) caps at standing entries rest moment (on, place_is, some, nothing) same = steady_all moment standing entries on same
 
 -- they are shown at their moments
 adds_shown : (old : Reporting) (moment : ℕ) (entries : List Entry) (before after : List ℕ) (new : Reporting) → Steady moment old.standing entries

@@ -86,7 +86,7 @@ read_ends left start was now before after clock next Stretch (so, on) one =
 read_ends left start was now before after clock next All (so, on) (none, all) =
     read_so left start now (told after) next All (same_read left start was now before after clock next so none)
     (subst (λ (l : List Placed). GoesOn (told l)) (sym none.entries) on, ap (λ (r : Remaining). r.rest) none.left_is ∙ all)
-read_ends left start was now before after clock next (NotWhole place) (so, on) (none, at, nothing) =
-    let there = subst (λ (r : Remaining). (place ≡ r.at) × (0 < length r.rest) × HasNoEntry r.caps r.at r.rest) (sym none.left_is) (at, nothing) in
+read_ends left start was now before after clock next (NotWhole place) (so, on) (none, at, some, nothing) =
+    let there = subst (λ (r : Remaining). (place ≡ r.at) × (0 < length r.rest) × HasNoEntry r.caps r.at r.rest) (sym none.left_is) (at, some, nothing) in
     read_so left start now (told after) next (NotWhole place) (same_read left start was now before after clock next so none)
-    (subst (λ (l : List Placed). GoesOn (told l)) (sym none.entries) on, there.0, there.1)
+    (subst (λ (l : List Placed). GoesOn (told l)) (sym none.entries) on, there.0, there.1, there.2)

@@ -250,8 +250,8 @@ fn a_bundle_that_waits_is_shown_again_when_it_is_called(rt: HostRuntime) -> Resu
     Ok(())
 }
 
-/// What a link of 10,000 faders does over a ring that nobody reads: how many it gave, and what
-/// comes out of the ring then, and at the next line.
+/// What a link of 400 faders does over a ring that nobody reads and that has room for some forty
+/// lines: how many it gave, and what comes out of the ring then, and at the next line.
 fn give_unread<W: Wait>(rt: &W, alloc: Global) -> Result<(u32, Vec<u8>, Vec<u8>), Fail> {
     let routes = routes(alloc)?;
     let (rounds, printer) = (Rounds::new(), Printer::new());
@@ -267,16 +267,16 @@ fn give_unread<W: Wait>(rt: &W, alloc: Global) -> Result<(u32, Vec<u8>, Vec<u8>)
         calendar: &calendar,
     };
     let out = RingSink::new(producer, &printer);
-    let link = Faders::new(10_000);
+    let link = Faders::new(400);
     let mut link = ShownLink::open(alloc, link, clock(alloc)?, out, view(&routes, false), watch)?;
     let answer = Submitted::RecordFull(Room::new(72, 0));
     let mut given = 0u32;
-    for _ in 0..10_001u32 {
+    for _ in 0..401u32 {
         if let Datagram::Got(_) = give(alloc, &mut link)? {
             given = given.saturating_add(1);
             gate.answered(0, given, &Submission { answer, clock: 1 });
         }
-        if given == 9_999 {
+        if given == 399 {
             break;
         }
     }
@@ -289,10 +289,10 @@ fn give_unread<W: Wait>(rt: &W, alloc: Global) -> Result<(u32, Vec<u8>, Vec<u8>)
 #[test]
 fn nobody_who_reads_holds_no_link(rt: HostRuntime) -> Result<(), Fail> {
     let (given, before, after) = give_unread(&rt, rt.alloc())?;
-    assert_eq!(rt; given, 9_999);
+    assert_eq!(rt; given, 399);
     assert!(rt; before.starts_with(b"-- Monday 1900-01-01, UTC\n00:00:01.000 !  /1/fader1 0.5"));
     assert!(rt; before.ends_with(b"from 10.0.0.9:51234\n"));
-    assert!(rt; after.starts_with(b"-- 99"));
+    assert!(rt; after.starts_with(b"-- 3"));
     Ok(())
 }
 

@@ -7,7 +7,6 @@ use osc_picture::add_svg;
 use osc_record::Unread;
 use osc_shown::WallClock;
 use std::alloc::Global;
-use std::process::Abort;
 use std::test::*;
 
 /// What stands after the style.
@@ -99,14 +98,15 @@ const DRAWN: &[u8] = b"<rect class=\"p\" x=\"0\" y=\"0\" width=\"8000\" height=\
 <text class=\"\" x=\"2940\" y=\"4530\">the method is there</text>\n\
 </svg>\n";
 
-/// The picture of the recording in UTC.
-fn drawn<A: Abort>(rt: &A, alloc: Global) -> Result<Vec<u8>, Fail> {
+#[test]
+fn a_recording_is_drawn_and_goes_on_with_the_next(rt: HostRuntime) -> Result<(), Fail> {
+    let alloc: Global = rt.alloc();
     let Ok(mut unread) = Unread::open(&RECORDING) else {
         panic!(rt; "no header");
     };
     let late = unread.caps().late();
     let (entries, cut) = entries_of(alloc, &mut unread)?;
-    let Ok(sketch) = Sketch::of(alloc, late, &entries) else {
+    let Ok(mut sketch) = Sketch::of(alloc, late, &entries) else {
         panic!(rt; "no sketch");
     };
     let heading = heading_of(alloc, WallClock::at(Offset::UTC), &sketch, cut)?;
@@ -114,27 +114,8 @@ fn drawn<A: Abort>(rt: &A, alloc: Global) -> Result<Vec<u8>, Fail> {
     let picture = picture_of(alloc, &sketch, frame, heading)?;
     let mut text = Vec::new(alloc);
     add_svg(&mut text, &picture)?;
-    Ok(text)
-}
-
-#[test]
-fn a_recording_is_drawn(rt: HostRuntime) -> Result<(), Fail> {
-    let text = drawn(&rt, rt.alloc())?;
     assert!(rt; text.ends_with(DRAWN));
-    Ok(())
-}
-
-#[test]
-fn a_picture_goes_on_with_the_next_recording(rt: HostRuntime) -> Result<(), Fail> {
-    let alloc = rt.alloc();
-    let Ok(mut unread) = Unread::open(&RECORDING) else {
-        panic!(rt; "no header");
-    };
-    let late = unread.caps().late();
-    let (entries, _) = entries_of(alloc, &mut unread)?;
-    let Ok(mut sketch) = Sketch::of(alloc, late, &entries) else {
-        panic!(rt; "no sketch");
-    };
+    // The same entries, as those of the recording after it.
     let (once, first) = (sketch.totals(), sketch.first());
     assert!(rt; sketch.go_on(late, &entries).is_ok());
     let twice = sketch.totals();

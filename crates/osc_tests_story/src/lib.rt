@@ -1,13 +1,8 @@
-//! Tests of what stands after a recording, and of how it is carried on. Each module is named after
-//! the crate that it tries.
+//! Tests of what stands after a recording. Each module is named after the crate that it tries.
 #![tactic(auto)]
 
 #[cfg(test)]
-mod carry;
-#[cfg(test)]
 mod drawing;
-#[cfg(test)]
-mod faders;
 #[cfg(test)]
 mod report;
 #[cfg(test)]

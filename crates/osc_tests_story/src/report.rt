@@ -62,11 +62,16 @@ e\0\xee\xb7=X\0\0\0\0\0\0\0\x18/light/front\0\0\0\0,f\0\0>\x99\x99\x9a\0\0\0\x14
 \0\0\0\0\0\0\0\x08\0\0\0\x01\0\0\0\0\0\0\0,/osc/tick\0\0\0,itit\0\0\0\0\0\0\0\xee\xb7;\x14\0\
 \0\0\0\0\0\0\0\xee\xb7;\x14\0\0\0\0";
 
-/// Whether ticks are shown, and whether only the lines with `!` and `?` are, and the lines.
-const LINES: [(bool, bool, &[u8]); 3] = [
+/// Whether ticks are shown, whether only the lines with `!` and `?` are, from when to when lines are shown, the pattern
+/// that selects them or nothing, and the lines. The second last moment is a unit of a time tag before the one that is shown
+/// as 20:00:44.500, too.
+const LINES: [(bool, bool, Option<u64>, Option<u64>, &[u8], &[u8]); 8] = [
     (
         false,
         false,
+        None,
+        None,
+        b"",
         b"-- Sunday 2026-11-29, UTC\n\
 19:59:50.000 +  /light/front\n\
 19:59:50.000 +  /light/back\n\
@@ -103,6 +108,9 @@ const LINES: [(bool, bool, &[u8]); 3] = [
     (
         true,
         false,
+        None,
+        None,
+        b"",
         b"-- Sunday 2026-11-29, UTC\n\
 19:59:50.000 .  caller 1\n\
 19:59:50.000 .  no more callers\n\
@@ -152,6 +160,9 @@ const LINES: [(bool, bool, &[u8]); 3] = [
     (
         false,
         true,
+        None,
+        None,
+        b"",
         b"-- Sunday 2026-11-29, UTC\n\
 19:59:50.000 !  /light/front                    not added, there is a method already\n\
 19:59:50.000 !  /light/front/x                  not added, it lies under /light/front\n\
@@ -170,12 +181,9 @@ const LINES: [(bool, bool, &[u8]); 3] = [
 20:01:20.000 !  the clock went back to 20:01:19.500  it stays where it was\n\
 -- 4 h 0 min 30.000 s: 8 messages, 5 calls; 4 called no method, 2 discarded, 2 refused, 3 waiting\n",
     ),
-];
-
-/// From when to when lines are shown, the pattern that selects them, if any, and the lines. The second
-/// last moment is a unit of a time tag before the one that is shown as 20:00:44.500, too.
-const PARTS: [(Option<u64>, Option<u64>, &[u8], &[u8]); 5] = [
     (
+        false,
+        false,
         None,
         None,
         b"/light/front",
@@ -193,6 +201,8 @@ const PARTS: [(Option<u64>, Option<u64>, &[u8], &[u8]); 5] = [
 -- of the whole recording, 4 h 0 min 30.000 s: 8 messages, 5 calls; 4 called no method, 2 discarded, 2 refused, 3 waiting\n",
     ),
     (
+        false,
+        false,
         Some(0xeeb7_02c0_0000_0000),
         Some(0xeeb7_0310_0000_0000),
         b"/light/*",
@@ -206,6 +216,8 @@ const PARTS: [(Option<u64>, Option<u64>, &[u8], &[u8]); 5] = [
 -- of the whole recording, 4 h 0 min 30.000 s: 8 messages, 5 calls; 4 called no method, 2 discarded, 2 refused, 3 waiting\n",
     ),
     (
+        false,
+        false,
         None,
         None,
         b"/{cue,keys}/*",
@@ -221,6 +233,8 @@ const PARTS: [(Option<u64>, Option<u64>, &[u8], &[u8]); 5] = [
 -- of the whole recording, 4 h 0 min 30.000 s: 8 messages, 5 calls; 4 called no method, 2 discarded, 2 refused, 3 waiting\n",
     ),
     (
+        false,
+        false,
         Some(0xeeb7_02c5_4f5c_28f6),
         Some(0xeeb7_02ec_8000_0000),
         b"",
@@ -234,6 +248,8 @@ const PARTS: [(Option<u64>, Option<u64>, &[u8], &[u8]); 5] = [
 -- of the whole recording, 4 h 0 min 30.000 s: 8 messages, 5 calls; 4 called no method, 2 discarded, 2 refused, 3 waiting\n",
     ),
     (
+        false,
+        false,
         Some(0xeeb7_02f0_0000_0000),
         None,
         b"/cue/none",
@@ -241,165 +257,8 @@ const PARTS: [(Option<u64>, Option<u64>, &[u8], &[u8]); 5] = [
     ),
 ];
 
-/// Two callers hand in what long words and a list of six addresses tell: what is called, comes late,
-/// and waits at the end.
-const HANDED: [u8; 1576] =
-    *b"\0\0\08/osc/rec\0\0\0\0,iiiiiiii\0\0\0\0\0\0\x02\0\0\0\x10\0\0\0@\0\0\0\x10\0\0\0 \0\0\0\
-\x04\0\x01\x86\xa0\0\0\0\0\0\0\0\x18/osc/enrol\0\0,ii\0\0\0\0\0\0\0\0\x01\0\0\0\x18/osc/enr\
-ol\0\0,ii\0\0\0\0\x01\0\0\0\x02\0\0\0,/osc/add\0\0\0\0,isiii\0\0\0\0\0\0/lamp/1\0\0\0\0\0\0\
-\0\0\0\0\0\0\0\0\0\0,/osc/add\0\0\0\0,isiii\0\0\0\0\0\0/lamp/2\0\0\0\0\0\0\0\0\x01\0\0\0\0\
-\0\0\0,/osc/add\0\0\0\0,isiii\0\0\0\0\0\0/lamp/3\0\0\0\0\0\0\0\0\x02\0\0\0\0\0\0\0,/osc/add\
-\0\0\0\0,isiii\0\0\0\0\0\0/lamp/4\0\0\0\0\0\0\0\0\x03\0\0\0\0\0\0\0,/osc/add\0\0\0\0,isiii\
-\0\0\0\0\0\0/lamp/5\0\0\0\0\0\0\0\0\x04\0\0\0\0\0\0\0,/osc/add\0\0\0\0,isiii\0\0\0\0\0\0/la\
-mp/6\0\0\0\0\0\0\0\0\x05\0\0\0\0\0\0\0@/osc/submit\0,ibihii\0\0\0\0\x01\0\0\0\x10/lamp/1\0,\
-f\0\0?\0\0\0\0\0\0\0\0\0\0\0\0\0\0\0\0\0\0\x01\0\0\0\0\0\0\0,/osc/tick\0\0\0,itit\0\0\0\0\0\
-\0\0\xee\xb7\x02\xc0\0\0\0\0\0\0\0\0\xee\xb7\x02\xc0\0\0\0\0\0\0\00/osc/release\0\0\0\0,ihb\
-\0\0\0\0\0\0\0\0\0\0\0\0\0\0\0\0\0\0\0\x08\0\0\0\0\0\0\0\0\0\0\0\x98/osc/submit\0,ibihii\0\
-\0\0\0\x02\0\0\0h#bundle\0\xee\xb7\x02\xc2\0\0\0\0\0\0\0\x10/lamp/*\0,i\0\0\0\0\0\x01\0\0\0\
-@/cue\0\0\0\0,s\0\0a clip whose title is too long for any list of cues\0\0\0\0\0\0\0\0\0\0\
-\0\0\x01\0\0\0\x01\0\0\0\0\0\0\0,/osc/tick\0\0\0,itit\0\0\0\0\0\0\0\xee\xb7\x02\xc0L\xcc\
-\xcc\xcc\0\0\0\0\xee\xb7\x02\xc0L\xcc\xcc\xcc\0\0\0L/osc/submit\0,ibihii\0\0\0\0\x01\0\0\0\
-\x1c/lamp/2\0,b\0\0\0\0\0\x0c\x01\x02\x03\x04\x05\x06\x07\x08\x09\n\x0b\x0c\0\0\0\0\0\0\0\0\
-\0\0\0\x02\0\0\0\x01\0\0\0\0\0\0\0,/osc/tick\0\0\0,itit\0\0\0\0\0\0\0\xee\xb7\x02\xc0O|\xed\
-\x91\0\0\0\0\xee\xb7\x02\xc0O|\xed\x91\0\0\00/osc/release\0\0\0\0,ihb\0\0\0\0\0\0\0\0\0\0\0\
-\0\0\0\0\x02\0\0\0\x08\0\0\0\0\0\0\0\x01\0\0\0,/osc/tick\0\0\0,itit\0\0\0\0\0\0\0\xee\xb7\
-\x02\xc2\0\0\0\0\0\0\0\0\xee\xb7\x02\xc2\0\0\0\0\0\0\0X/osc/release\0\0\0\0,ihb\0\0\0\0\0\0\
-\0\0\0\0\0\0\0\0\0\x01\0\0\00\0\0\0\0\0\0\0\0\0\0\0\0\0\0\0\x01\0\0\0\0\0\0\0\x02\0\0\0\0\0\
-\0\0\x03\0\0\0\0\0\0\0\x04\0\0\0\0\0\0\0\x05\0\0\0(/osc/remove\0,isii\0\0\0\0\0\0\x02/lamp/\
-6\0\0\0\0\0\0\0\0\x05\0\0\0\x88/osc/submit\0,ibihii\0\0\0\0\x02\0\0\0X#bundle\0\xee\xb7\x02\
-\xc0\0\0\0\0\0\0\0D/lamp/1\0,S\0\0gr\xc3\xbcn und blau, und dann noch lange nichts: das End\
-e\0\0\0\0\0\0\0\0\0\0\0\0\0\0\0\x03\0\0\0\x01\0\0\0\0\0\0\0,/osc/tick\0\0\0,itit\0\0\0\0\0\
-\0\0\xee\xb7\x02\xfe\0 \xc4\x9b\0\0\0\0\xee\xb7\x02\xfe\0 \xc4\x9b\0\0\00/osc/release\0\0\0\
-\0,ihb\0\0\0\0\0\0\0\0\0\0\0\0\0\0\0\x03\0\0\0\x08\0\0\0\0\0\0\0\0\0\0\0\x90/osc/submit\0,i\
-bihii\0\0\0\0\x01\0\0\0`#bundle\0\xee\xb7)\xd0\0\0\0\0\0\0\0</lamp/*\0,s\0\0\xfc\xfc\xfc\
-\xfc\xfc\xfc\xfc\xfc\xfc\xfc\xfc\xfc\xfc\xfc\xfc\xfc\xfc\xfc\xfc\xfc\xfc\xfc\xfc\xfc\xfc\
-\xfc\xfc\xfc\xfc\xfc\xfc\xfc\xfc\xfc\xfc\xfc\xfc\xfc\xfc\xfc\xfc\xfc\xfc\xfc\xfc\0\0\0\0\0\
-\0\x0c/lamp/3\0,\0\0\0\0\0\0\0\0\0\0\0\0\0\0\x04\0\0\0\x01\0\0\0\0\0\0\0,/osc/tick\0\0\0,it\
-it\0\0\0\0\0\0\0\xee\xb7\x03$\0\0\0\0\0\0\0\0\xee\xb7\x03$\0\0\0\0";
-
-/// Whether times are relative, callers are shown, and words and lists are whole; the pattern that
-/// selects lines; and the lines.
-const LOOKS: [(bool, bool, bool, &[u8], &[u8]); 5] = [
-    (
-        true,
-        false,
-        false,
-        b"",
-        b"\x20      0.000 +  /lamp/1\n\
-\x20      0.000 +  /lamp/2\n\
-\x20      0.000 +  /lamp/3\n\
-\x20      0.000 +  /lamp/4\n\
-\x20      0.000 +  /lamp/5\n\
-\x20      0.000 +  /lamp/6\n\
-\x20      0.000    /lamp/1 0.5\n\
-\x20      0.300 ~  /lamp/* 1 and 1 more            for 20:00:02.000, in 1.700 s\n\
-\x20      0.310    /lamp/2 b:0102030405060708..12\n\
-\x20      2.000  { /lamp/* 1                       -> /lamp/1, /lamp/2, /lamp/3, /lamp/4 and 2 more\n\
-\x20      2.000 ?} /cue \"a clip whose title is too long for any l\"..51  no method\n\
-\x20     62.000 -  /lamp/6\n\
-\x20     62.000    /lamp/1 S:\"gr\xc3\xbcn und blau, und dann noch lange nicht\"..52  late by 62.000 s\n\
-\x20    100.000 ~  /lamp/* \"\\xfc\\xfc\\xfc\\xfc\\xfc\\xfc\\xfc\\xfc\\xfc\\xfc\\xfc\\xfc\\xfc\\xfc\\xfc\\xfc\\xfc\\xfc\\xfc\\xfc\\xfc\\xfc\\xfc\\xfc\\xfc\\xfc\\xfc\\xfc\\xfc\\xfc\\xfc\\xfc\\xfc\\xfc\\xfc\\xfc\\xfc\\xfc\\xfc\\xfc\"..45 and 1 more  for 22:46:40.000, in 9900.000 s\n\
-\x20    100.000 ~{ /lamp/* \"\\xfc\\xfc\\xfc\\xfc\\xfc\\xfc\\xfc\\xfc\\xfc\\xfc\\xfc\\xfc\\xfc\\xfc\\xfc\\xfc\\xfc\\xfc\\xfc\\xfc\\xfc\\xfc\\xfc\\xfc\\xfc\\xfc\\xfc\\xfc\\xfc\\xfc\\xfc\\xfc\\xfc\\xfc\\xfc\\xfc\\xfc\\xfc\\xfc\\xfc\"..45  still waits, for 22:46:40.000\n\
-\x20    100.000 ~} /lamp/3                         still waits, for 22:46:40.000\n\
--- 1 min 40.000 s: 5 messages, 9 calls; 1 called no method, 2 waiting\n",
-    ),
-    (
-        false,
-        true,
-        false,
-        b"",
-        b"-- Sunday 2026-11-29, UTC\n\
-20:00:00.000 0 +  /lamp/1\n\
-20:00:00.000 0 +  /lamp/2\n\
-20:00:00.000 0 +  /lamp/3\n\
-20:00:00.000 0 +  /lamp/4\n\
-20:00:00.000 0 +  /lamp/5\n\
-20:00:00.000 0 +  /lamp/6\n\
-20:00:00.000 1    /lamp/1 0.5\n\
-20:00:00.300 2 ~  /lamp/* 1 and 1 more          for 20:00:02.000, in 1.700 s\n\
-20:00:00.310 1    /lamp/2 b:0102030405060708..12\n\
-20:00:02.000 2  { /lamp/* 1                     -> /lamp/1, /lamp/2, /lamp/3, /lamp/4 and 2 more\n\
-20:00:02.000 2 ?} /cue \"a clip whose title is too long for any l\"..51  no method\n\
-20:01:02.000 2 -  /lamp/6\n\
-20:01:02.000 2    /lamp/1 S:\"gr\xc3\xbcn und blau, und dann noch lange nicht\"..52  late by 62.000 s\n\
-20:01:40.000 1 ~  /lamp/* \"\\xfc\\xfc\\xfc\\xfc\\xfc\\xfc\\xfc\\xfc\\xfc\\xfc\\xfc\\xfc\\xfc\\xfc\\xfc\\xfc\\xfc\\xfc\\xfc\\xfc\\xfc\\xfc\\xfc\\xfc\\xfc\\xfc\\xfc\\xfc\\xfc\\xfc\\xfc\\xfc\\xfc\\xfc\\xfc\\xfc\\xfc\\xfc\\xfc\\xfc\"..45 and 1 more  for 22:46:40.000, in 9900.000 s\n\
-20:01:40.000 1 ~{ /lamp/* \"\\xfc\\xfc\\xfc\\xfc\\xfc\\xfc\\xfc\\xfc\\xfc\\xfc\\xfc\\xfc\\xfc\\xfc\\xfc\\xfc\\xfc\\xfc\\xfc\\xfc\\xfc\\xfc\\xfc\\xfc\\xfc\\xfc\\xfc\\xfc\\xfc\\xfc\\xfc\\xfc\\xfc\\xfc\\xfc\\xfc\\xfc\\xfc\\xfc\\xfc\"..45  still waits, for 22:46:40.000\n\
-20:01:40.000 1 ~} /lamp/3                       still waits, for 22:46:40.000\n\
--- 1 min 40.000 s: 5 messages, 9 calls; 1 called no method, 2 waiting\n",
-    ),
-    (
-        false,
-        false,
-        true,
-        b"",
-        b"-- Sunday 2026-11-29, UTC\n\
-20:00:00.000 +  /lamp/1\n\
-20:00:00.000 +  /lamp/2\n\
-20:00:00.000 +  /lamp/3\n\
-20:00:00.000 +  /lamp/4\n\
-20:00:00.000 +  /lamp/5\n\
-20:00:00.000 +  /lamp/6\n\
-20:00:00.000    /lamp/1 0.5\n\
-20:00:00.300 ~  /lamp/* 1 and 1 more            for 20:00:02.000, in 1.700 s\n\
-20:00:00.310    /lamp/2 b:0102030405060708090a0b0c\n\
-20:00:02.000  { /lamp/* 1                       -> /lamp/1, /lamp/2, /lamp/3, /lamp/4, /lamp/5, /lamp/6\n\
-20:00:02.000 ?} /cue \"a clip whose title is too long for any list of cues\"  no method\n\
-20:01:02.000 -  /lamp/6\n\
-20:01:02.000    /lamp/1 S:\"gr\xc3\xbcn und blau, und dann noch lange nichts: das Ende\"  late by 62.000 s\n\
-20:01:40.000 ~  /lamp/* \"\\xfc\\xfc\\xfc\\xfc\\xfc\\xfc\\xfc\\xfc\\xfc\\xfc\\xfc\\xfc\\xfc\\xfc\\xfc\\xfc\\xfc\\xfc\\xfc\\xfc\\xfc\\xfc\\xfc\\xfc\\xfc\\xfc\\xfc\\xfc\\xfc\\xfc\\xfc\\xfc\\xfc\\xfc\\xfc\\xfc\\xfc\\xfc\\xfc\\xfc\\xfc\\xfc\\xfc\\xfc\\xfc\" and 1 more  for 22:46:40.000, in 9900.000 s\n\
-20:01:40.000 ~{ /lamp/* \"\\xfc\\xfc\\xfc\\xfc\\xfc\\xfc\\xfc\\xfc\\xfc\\xfc\\xfc\\xfc\\xfc\\xfc\\xfc\\xfc\\xfc\\xfc\\xfc\\xfc\\xfc\\xfc\\xfc\\xfc\\xfc\\xfc\\xfc\\xfc\\xfc\\xfc\\xfc\\xfc\\xfc\\xfc\\xfc\\xfc\\xfc\\xfc\\xfc\\xfc\\xfc\\xfc\\xfc\\xfc\\xfc\"  still waits, for 22:46:40.000\n\
-20:01:40.000 ~} /lamp/3                         still waits, for 22:46:40.000\n\
--- 1 min 40.000 s: 5 messages, 9 calls; 1 called no method, 2 waiting\n",
-    ),
-    (
-        true,
-        true,
-        true,
-        b"",
-        b"\x20      0.000 0 +  /lamp/1\n\
-\x20      0.000 0 +  /lamp/2\n\
-\x20      0.000 0 +  /lamp/3\n\
-\x20      0.000 0 +  /lamp/4\n\
-\x20      0.000 0 +  /lamp/5\n\
-\x20      0.000 0 +  /lamp/6\n\
-\x20      0.000 1    /lamp/1 0.5\n\
-\x20      0.300 2 ~  /lamp/* 1 and 1 more          for 20:00:02.000, in 1.700 s\n\
-\x20      0.310 1    /lamp/2 b:0102030405060708090a0b0c\n\
-\x20      2.000 2  { /lamp/* 1                     -> /lamp/1, /lamp/2, /lamp/3, /lamp/4, /lamp/5, /lamp/6\n\
-\x20      2.000 2 ?} /cue \"a clip whose title is too long for any list of cues\"  no method\n\
-\x20     62.000 2 -  /lamp/6\n\
-\x20     62.000 2    /lamp/1 S:\"gr\xc3\xbcn und blau, und dann noch lange nichts: das Ende\"  late by 62.000 s\n\
-\x20    100.000 1 ~  /lamp/* \"\\xfc\\xfc\\xfc\\xfc\\xfc\\xfc\\xfc\\xfc\\xfc\\xfc\\xfc\\xfc\\xfc\\xfc\\xfc\\xfc\\xfc\\xfc\\xfc\\xfc\\xfc\\xfc\\xfc\\xfc\\xfc\\xfc\\xfc\\xfc\\xfc\\xfc\\xfc\\xfc\\xfc\\xfc\\xfc\\xfc\\xfc\\xfc\\xfc\\xfc\\xfc\\xfc\\xfc\\xfc\\xfc\" and 1 more  for 22:46:40.000, in 9900.000 s\n\
-\x20    100.000 1 ~{ /lamp/* \"\\xfc\\xfc\\xfc\\xfc\\xfc\\xfc\\xfc\\xfc\\xfc\\xfc\\xfc\\xfc\\xfc\\xfc\\xfc\\xfc\\xfc\\xfc\\xfc\\xfc\\xfc\\xfc\\xfc\\xfc\\xfc\\xfc\\xfc\\xfc\\xfc\\xfc\\xfc\\xfc\\xfc\\xfc\\xfc\\xfc\\xfc\\xfc\\xfc\\xfc\\xfc\\xfc\\xfc\\xfc\\xfc\"  still waits, for 22:46:40.000\n\
-\x20    100.000 1 ~} /lamp/3                       still waits, for 22:46:40.000\n\
--- 1 min 40.000 s: 5 messages, 9 calls; 1 called no method, 2 waiting\n",
-    ),
-    (
-        true,
-        false,
-        false,
-        b"/lamp/2",
-        b"\x20      0.000 +  /lamp/2\n\
-\x20      0.310    /lamp/2 b:0102030405060708..12\n\
-\x20      2.000  { /lamp/* 1                       -> /lamp/1, /lamp/2, /lamp/3, /lamp/4 and 2 more\n\
--- of the whole recording, 1 min 40.000 s: 5 messages, 9 calls; 1 called no method, 2 waiting\n",
-    ),
-];
-
-/// How lines look in UTC.
-pub(crate) fn look(quiet: bool) -> Look {
-    Look {
-        clock: WallClock::at(Offset::UTC),
-        since: None,
-        caller: None,
-        whole: false,
-        colours: false,
-        quiet,
-    }
-}
-
 /// The pattern that selects lines, if there is one.
-pub(crate) fn selector<A: Abort>(rt: &A, alloc: Global, pattern: &[u8]) -> Option<Selector> {
+fn selector<A: Abort>(rt: &A, alloc: Global, pattern: &[u8]) -> Option<Selector> {
     if pattern.is_empty() {
         return None;
     }
@@ -411,12 +270,7 @@ pub(crate) fn selector<A: Abort>(rt: &A, alloc: Global, pattern: &[u8]) -> Optio
 }
 
 /// All that is shown of what is left of a recording, and the end.
-pub(crate) fn shown<A: Abort>(
-    rt: &A,
-    reporter: &mut Reporter,
-    unread: &mut Unread<'_>,
-    text: &mut Vec<u8>,
-) {
+fn shown<A: Abort>(rt: &A, reporter: &mut Reporter, unread: &mut Unread<'_>, text: &mut Vec<u8>) {
     for _ in 0..41 {
         match reporter.show(text, unread) {
             Ok(Shown::Stretch) => {}
@@ -430,74 +284,33 @@ pub(crate) fn shown<A: Abort>(
     panic!(rt; "no end");
 }
 
-/// Whether these are the lines of the recording.
-fn are_lines<A: Abort>(rt: &A, alloc: Global, options: Options, want: &[u8]) -> bool {
-    match Unread::open(&RECORDING) {
-        Ok(mut unread) => are_lines_of(rt, alloc, &mut unread, options, want),
-        Err(_) => panic!(rt; "no header"),
-    }
-}
-
-/// Whether these are the lines of what is left of a recording.
-fn are_lines_of<A: Abort>(
-    rt: &A,
-    alloc: Global,
-    unread: &mut Unread<'_>,
-    options: Options,
-    want: &[u8],
-) -> bool {
-    let mut reporter = Reporter::open(alloc, options, unread.caps().late());
-    let mut text = Vec::new(alloc);
-    shown(rt, &mut reporter, unread, &mut text);
-    text.as_slice() == want
-}
-
 #[test]
-fn all_lines_are_shown(rt: HostRuntime) {
-    for (ticks, quiet, want) in LINES {
-        let options = Options::all(look(quiet), ticks);
-        assert!(rt; are_lines(&rt, rt.alloc(), options, want));
-    }
-}
-
-#[test]
-fn lines_are_left_out_by_moment_and_address(rt: HostRuntime) {
-    for (from, to, pattern, want) in PARTS {
+fn lines_are_shown_or_left_out(rt: HostRuntime) {
+    for (ticks, quiet, from, to, pattern, want) in LINES {
         let alloc: Global = rt.alloc();
+        let Ok(mut unread) = Unread::open(&RECORDING) else {
+            panic!(rt; "no header");
+        };
         let options = Options {
-            look: look(false),
+            look: Look {
+                clock: WallClock::at(Offset::UTC),
+                since: None,
+                caller: None,
+                whole: false,
+                colours: false,
+                quiet,
+            },
             relative: false,
             callers: false,
-            ticks: false,
+            ticks,
             from,
             to,
             only: selector(&rt, alloc, pattern),
             runs: false,
         };
-        assert!(rt; are_lines(&rt, alloc, options, want));
-    }
-}
-
-#[test]
-fn lines_have_relative_times_callers_and_whole_words(rt: HostRuntime) {
-    for (relative, callers, whole, pattern, want) in LOOKS {
-        let alloc: Global = rt.alloc();
-        let Ok(mut unread) = Unread::open(&HANDED) else {
-            panic!(rt; "no header");
-        };
-        let options = Options {
-            look: Look {
-                whole,
-                ..look(false)
-            },
-            relative,
-            callers,
-            ticks: false,
-            from: None,
-            to: None,
-            only: selector(&rt, alloc, pattern),
-            runs: false,
-        };
-        assert!(rt; are_lines_of(&rt, alloc, &mut unread, options, want));
+        let mut reporter = Reporter::open(alloc, options, unread.caps().late());
+        let mut text = Vec::new(alloc);
+        shown(&rt, &mut reporter, &mut unread, &mut text);
+        assert!(rt; text.as_slice() == want);
     }
 }

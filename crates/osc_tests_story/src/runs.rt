@@ -101,7 +101,7 @@ fn tag(millis: u64) -> u64 {
 }
 
 #[test]
-fn a_run_is_told_address_by_address(rt: HostRuntime) -> Result<(), Fail> {
+fn runs_are_told_address_by_address(rt: HostRuntime) -> Result<(), Fail> {
     let mut text = Vec::new(rt.alloc());
     let mut runs = Runs::open(rt.alloc());
     for (millis, address, words, line) in STEPS {
@@ -116,13 +116,7 @@ fn a_run_is_told_address_by_address(rt: HostRuntime) -> Result<(), Fail> {
     }
     runs.flush(&mut text)?;
     assert_eq!(rt; text.as_slice(), TOLD);
-    Ok(())
-}
-
-#[test]
-fn many_lines_are_one(rt: HostRuntime) -> Result<(), Fail> {
-    let mut text = Vec::new(rt.alloc());
-    let mut runs = Runs::open(rt.alloc());
+    text.clear();
     for at in 0..1_500u64 {
         let step = Step {
             look: plain_look(),

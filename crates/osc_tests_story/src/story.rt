@@ -51,7 +51,7 @@ fn take<A: Abort>(rt: &A, follower: &mut Follower, piece: &[u8]) {
 }
 
 #[test]
-fn a_cut_at_any_byte_makes_no_difference(rt: HostRuntime) {
+fn a_recording_is_followed_whatever_its_pieces(rt: HostRuntime) {
     for cut in 0..=RECORDING.len() {
         let (first, second) = RECORDING.split_at(cut);
         let mut follower = Follower::open(rt.alloc());
@@ -60,21 +60,28 @@ fn a_cut_at_any_byte_makes_no_difference(rt: HostRuntime) {
         take(&rt, &mut follower, second);
         assert_eq!(rt; told(&follower), stands_after(RECORDING.len()));
     }
-}
-
-#[test]
-fn a_byte_at_a_time_is_followed(rt: HostRuntime) {
     let mut follower = Follower::open(rt.alloc());
     for cut in 0..RECORDING.len() {
         take(&rt, &mut follower, &RECORDING[cut..=cut]);
         assert_eq!(rt; told(&follower), stands_after(cut + 1));
     }
+    let want = Totals {
+        entries: 5,
+        messages: 1,
+        calls: 1,
+        unheard: 0,
+        discarded: 0,
+        refused: 0,
+    };
+    assert_eq!(rt; follower.story().map(|story| story.totals()), Some(want));
+    assert!(rt; follower.take(b"\0").is_ok());
+    assert_eq!(rt; follower.follow(), Progress::TooLong);
 }
 
 #[test]
-fn a_waiting_bundle_is_told(rt: HostRuntime) {
+fn what_waits_and_its_calls_are_told(rt: HostRuntime) {
     let mut follower = Follower::open(rt.alloc());
-    take(&rt, &mut follower, &RECORDING[..180]);
+    take(&rt, &mut follower, &RECORDING[..228]);
     let Some(story) = follower.story() else {
         panic!(rt; "no header");
     };
@@ -91,15 +98,6 @@ fn a_waiting_bundle_is_told(rt: HostRuntime) {
         panic!(rt; "another number of messages");
     };
     assert_eq!(rt; message.as_slice(), b"/a\0\0".as_slice());
-}
-
-#[test]
-fn a_call_is_told_before_its_release_is_seen(rt: HostRuntime) {
-    let mut follower = Follower::open(rt.alloc());
-    take(&rt, &mut follower, &RECORDING[..228]);
-    let Some(story) = follower.story() else {
-        panic!(rt; "no header");
-    };
     let answer = Answer::Released {
         unit: 0,
         hits: &RECORDING[272..280],
@@ -114,21 +112,6 @@ fn a_call_is_told_before_its_release_is_seen(rt: HostRuntime) {
         (b"/a".as_slice(), b"/a\0\0".as_slice())
     );
     assert!(rt; calls.next().is_none());
-}
-
-#[test]
-fn what_was_told_is_counted(rt: HostRuntime) {
-    let mut follower = Follower::open(rt.alloc());
-    take(&rt, &mut follower, &RECORDING);
-    let want = Totals {
-        entries: 5,
-        messages: 1,
-        calls: 1,
-        unheard: 0,
-        discarded: 0,
-        refused: 0,
-    };
-    assert_eq!(rt; follower.story().map(|story| story.totals()), Some(want));
 }
 
 #[test]
@@ -148,12 +131,4 @@ fn a_release_of_nothing_disagrees(rt: HostRuntime) {
             why: Disagreement::NotFirst
         }
     );
-}
-
-#[test]
-fn more_than_the_header_allows_is_too_long(rt: HostRuntime) {
-    let mut follower = Follower::open(rt.alloc());
-    take(&rt, &mut follower, &RECORDING);
-    assert!(rt; follower.take(b"\0").is_ok());
-    assert_eq!(rt; follower.follow(), Progress::TooLong);
 }

@@ -112,48 +112,28 @@ fn serve_one<R: Threads + Wait + Sync>(
 }
 
 #[test]
-fn a_gate_is_told_what_the_server_answered(rt: HostRuntime) -> Result<(), Fail> {
+fn a_gate_is_told_what_was_answered_and_released(rt: HostRuntime) -> Result<(), Fail> {
     let alloc = rt.alloc();
+    let first = Submitted::Queued {
+        first: 0,
+        count: 1,
+        late: 0,
+    };
+    let second = Submitted::Queued {
+        first: 1,
+        count: 1,
+        late: 0,
+    };
     let mut wanted = Vec::new(alloc);
-    wanted.push((
-        0,
-        1,
-        Submitted::Queued {
-            first: 0,
-            count: 1,
-            late: 0,
-        },
-    ))?;
-    wanted.push((
-        0,
-        3,
-        Submitted::Queued {
-            first: 1,
-            count: 1,
-            late: 0,
-        },
-    ))?;
+    wanted.push((0, 1, first))?;
+    wanted.push((0, 3, second))?;
     wanted.push((0, 4, Submitted::UnitsFull(Room::new(1, 0))))?;
     let gate = Answers::wanted(wanted);
     let end = serve_one(&rt, alloc, link_ahead(alloc)?, &gate)?;
     assert_eq!(rt; gate.told(), (3, 0, 0));
     assert_eq!(rt; end.faults.len(), 1);
-    Ok(())
-}
-
-#[test]
-fn a_gate_is_told_of_what_the_ticker_releases(rt: HostRuntime) -> Result<(), Fail> {
-    let alloc = rt.alloc();
     let mut wanted = Vec::new(alloc);
-    wanted.push((
-        0,
-        1,
-        Submitted::Queued {
-            first: 0,
-            count: 1,
-            late: 0,
-        },
-    ))?;
+    wanted.push((0, 1, first))?;
     let gate = Answers::wanted(wanted);
     let end = serve_one(&rt, alloc, link_now(alloc)?, &gate)?;
     assert_eq!(rt; gate.told(), (1, 0, 1));

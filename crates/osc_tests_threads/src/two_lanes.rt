@@ -76,7 +76,8 @@ fn play_both<R: Threads + Wait + Sync, G: Gate + Sync>(
 #[test]
 fn two_lanes_play_at_once(rt: HostRuntime) -> Result<(), Fail> {
     for held in 1..3u32 {
-        let gate = Hold::of(held);
+        // The first line of lane 1 is line 1, and that of lane 2 is line 2.
+        let gate = Hold::before(held, held);
         let mut ends = play_both(&rt, rt.alloc(), &gate)?;
         let mut two = ends.pop().ok_or("an end")?;
         let one = ends.pop().ok_or("an end")?;

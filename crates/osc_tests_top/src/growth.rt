@@ -1,11 +1,8 @@
 // A recording that is written while its links are served.
-use crate::hold::{Flag, HoldEach};
-use crate::program::{replayed, words};
-use crate::serve::{ADD, FADER, answer};
+use crate::live::{ADD, FADER, await_count, words};
 use osc_atoms::Bytes;
-use osc_edge::{
-    Datagram, MemoryClock, MemoryLink, MemorySink, MemorySource, Put, Sink, SteadySink,
-};
+use osc_edge::{MemoryClock, MemoryLink, MemorySink, MemorySource, Put, Sink, SteadySink};
+use osc_lanes::Gate;
 use osc_method::{Method, Trace};
 use osc_top::live_top;
 use std::alloc::{AllocError, Global};
@@ -24,11 +21,33 @@ const CALL_SIZE: u32 = 36;
 /// More calls than the sink of such a run gets: it has one for each entry at most.
 const CALLS: u32 = 64;
 
+/// How often something has been done.
+type Count = Arc<AtomicU64, Global>;
+
+/// Holds each datagram until as many were given as came before it.
+#[derive(Drop)]
+struct HoldEach {
+    given: Count,
+    late: AtomicU64,
+}
+
+impl Gate for HoldEach {
+    fn enter(&self, _link: u32, datagram: u32) {
+        await_count(
+            &self.given,
+            u64::from(datagram.saturating_sub(1)),
+            &self.late,
+        );
+    }
+
+    fn leave(&self, _link: u32, _datagram: u32) {}
+}
+
 /// A sink in memory that counts how often it is given the fader's packet, or fails.
 #[derive(Drop)]
 struct WatchedSink {
     bytes: MemorySink,
-    given: Flag,
+    given: Count,
 }
 
 impl Sink for WatchedSink {
@@ -69,24 +88,15 @@ fn count_faders(bytes: &[u8], count: &AtomicU64) {
 #[derive(Drop)]
 struct Served {
     status: u8,
-    written: Vec<u8>,
-    recorded: Vec<u8>,
+    is_printed: bool,
+    is_recorded: bool,
     /// How many bytes the method's box was told.
     told: Option<u32>,
-    next: Datagram,
     /// Whether a packet was played before those before it were given to the recording's sink.
     gave_up: bool,
 }
 
-/// A link that has the fader's packet twice.
-fn two_faders(alloc: Global) -> Result<MemoryLink, AllocError> {
-    let mut turns = Vec::new(alloc);
-    turns.push(Some(Bytes::copied(alloc, FADER)?))?;
-    turns.push(Some(Bytes::copied(alloc, FADER)?))?;
-    Ok(MemoryLink::open(turns, Vec::new(alloc)))
-}
-
-/// A link that has it five times.
+/// A link that has the fader's packet five times.
 fn five_faders(alloc: Global) -> Result<MemoryLink, AllocError> {
     let mut turns = Vec::new(alloc);
     turns.push(Some(Bytes::copied(alloc, FADER)?))?;
@@ -103,22 +113,24 @@ fn told(heard: &[(u32, Box<dyn Method + Send>)]) -> Option<u32> {
     method.told()
 }
 
-/// Serves a link, and holds each datagram back until the recording's sink was given those before it, or has failed. The
-/// sink fails at these calls.
+/// Serves the link, and holds each datagram back until the recording's sink was given those before it, or has failed. The
+/// sink fails at this call.
 fn serve_watched<R: Threads + Wait + Sync>(
     rt: &R,
     alloc: Global,
-    link: MemoryLink,
-    fails: &[u32],
+    fails: u32,
 ) -> Result<Served, Fail> {
     let given = Arc::new(alloc, AtomicU64::new(0))?;
-    let gate = HoldEach::until(Arc::try_clone(&given)?);
+    let gate = HoldEach {
+        given: Arc::try_clone(&given)?,
+        late: AtomicU64::new(0),
+    };
     let mut rec = WatchedSink {
-        bytes: MemorySink::open(alloc, Vec::from_slice(alloc, fails)?),
+        bytes: MemorySink::open(alloc, Vec::from_array(alloc, [fails])?),
         given,
     };
     let mut links = Vec::with_capacity(alloc, 1)?;
-    links.push_reserved(link);
+    links.push_reserved(five_faders(alloc)?);
     let mut clock = MemoryClock::open(Vec::from_array(alloc, [5])?, Vec::new(alloc));
     let script = Vec::from_slice(alloc, ADD.as_bytes())?;
     let mut source = MemorySource::open(script, Vec::new(alloc));
@@ -126,7 +138,7 @@ fn serve_watched<R: Threads + Wait + Sync>(
     let mut bank: Vec<Box<dyn Method + Send>> = Vec::new(alloc);
     bank.push(Box::new(alloc, Trace::open(alloc, 1024)?)?)?;
     let words = words(alloc, "serve f")?;
-    let (ended, mut links) = live_top(
+    let (ended, _links) = live_top(
         rt,
         alloc,
         &words,
@@ -140,74 +152,38 @@ fn serve_watched<R: Threads + Wait + Sync>(
     );
     Ok(Served {
         status: ended.status,
-        written: Vec::from_slice(alloc, out.bytes())?,
-        recorded: Vec::from_slice(alloc, rec.bytes.bytes())?,
+        is_printed: !out.bytes().is_empty(),
+        is_recorded: !rec.bytes.bytes().is_empty(),
         told: told(&ended.heard),
-        next: answer(alloc, links.pop().ok_or("a link")?)?,
-        gave_up: gate.gave_up(),
+        gave_up: gate.late.load(Ordering::SeqCst) == 1,
     })
 }
 
 #[test]
-fn a_datagram_is_recorded_before_the_next_is_played(rt: HostRuntime) -> Result<(), Fail> {
-    let alloc = rt.alloc();
-    let served = serve_watched(&rt, alloc, two_faders(alloc)?, &[])?;
-    assert!(rt; !served.gave_up);
-    assert_eq!(rt; (served.status, served.told), (0, Some(2 * CALL_SIZE)));
-    assert_eq!(rt; served.next, Datagram::End);
-    let (status, printed) = replayed(alloc, &served.recorded)?;
-    assert_eq!(rt; status, 0);
-    assert_eq!(rt; printed.as_slice(), served.written.as_slice());
-    Ok(())
-}
-
-#[test]
-fn a_sink_that_fails_at_any_call_gets_no_more_and_the_show_goes_on(
-    rt: HostRuntime,
-) -> Result<(), Fail> {
+fn each_datagram_is_recorded_before_the_next_is_played(rt: HostRuntime) -> Result<(), Fail> {
     let alloc = rt.alloc();
     // How many calls a run makes depends on when it looks: they fail one by one, until a run has no such call.
     for call in 1..CALLS {
-        let served = serve_watched(&rt, alloc, five_faders(alloc)?, &[call])?;
-        assert!(rt; !served.gave_up, "{call}");
-        assert_eq!(rt;
-            (served.told, served.next),
-            (Some(5 * CALL_SIZE), Datagram::End),
-            "{call}"
-        );
+        // A writer that isn't woken looks once a second, so that five datagrams would take four.
+        let start = Instant::now(&rt).ok().ok_or("a clock")?;
+        let served = serve_watched(&rt, alloc, call)?;
+        let time = start.elapsed(&rt).ok().ok_or("a clock")?;
+        assert!(rt; !served.gave_up && time < Duration::from_secs(3), "{call}");
+        assert_eq!(rt; served.told, Some(5 * CALL_SIZE), "{call}");
         if served.status == 0 {
             // The entries of each datagram come in a call of their own.
-            assert!(rt; call > 5, "{call}");
+            assert!(rt;
+                call > 5 && served.is_printed && served.is_recorded,
+                "{call}"
+            );
             return Ok(());
         }
-        assert_eq!(rt;
-            (served.status, served.written.is_empty()),
-            (5, true),
+        // What failed gets no more, and the show goes on.
+        assert_eq!(rt; served.status, 5, "{call}");
+        assert!(rt;
+            !served.is_printed && served.is_recorded == (call > 1),
             "{call}"
         );
-        assert!(rt; is_front(alloc, &served.recorded, call)?, "{call}");
     }
     Err("a run with so many calls")?
-}
-
-/// Whether this is what a sink has whose call with this number has failed: nothing, or a recording that begins with the add.
-fn is_front(alloc: Global, recorded: &[u8], call: u32) -> Result<bool, Fail> {
-    if call == 1 {
-        return Ok(recorded.is_empty());
-    }
-    let (status, printed) = replayed(alloc, recorded)?;
-    Ok(status == 0 && printed.starts_with(b"add 0 /1/fader1 id 0\n"))
-}
-
-#[test]
-fn the_writer_is_woken_by_each_datagram(rt: HostRuntime) -> Result<(), Fail> {
-    let alloc = rt.alloc();
-    // A writer that isn't woken looks once a second, so that five datagrams would take four.
-    let start = Instant::now(&rt).ok().ok_or("a clock")?;
-    let served = serve_watched(&rt, alloc, five_faders(alloc)?, &[])?;
-    let time = start.elapsed(&rt).ok().ok_or("a clock")?;
-    assert!(rt; !served.gave_up);
-    assert_eq!(rt; (served.status, served.told), (0, Some(5 * CALL_SIZE)));
-    assert!(rt; time < Duration::from_secs(3));
-    Ok(())
 }
