@@ -132,7 +132,7 @@ fn serve_watched<R: Threads + Wait + Sync>(
     let mut links = Vec::with_capacity(alloc, 1)?;
     links.push_reserved(five_faders(alloc)?);
     let mut clock = MemoryClock::open(Vec::from_array(alloc, [5])?, Vec::new(alloc));
-    let script = Vec::from_slice(alloc, ADD.as_bytes())?;
+    let script = Vec::from_slice(alloc, ADD)?;
     let mut source = MemorySource::open(script, Vec::new(alloc));
     let mut out = SteadySink::open(alloc);
     let mut bank: Vec<Box<dyn Method + Send>> = Vec::new(alloc);

@@ -16,7 +16,7 @@ use std::thread::Threads;
 /// A controller's fader, at a half.
 pub(crate) const FADER: &[u8] = b"/1/fader1\0\0\0,f\0\0\x3f\0\0\0";
 
-pub(crate) const ADD: &str = "add /1/fader1\n";
+pub(crate) const ADD: &[u8] = b"add /1/fader1\n";
 
 /// At which of its calls, counted from 1, the source fails, the sink of the text, that of the recording, each link and the
 /// clock; 0 where it doesn't.
@@ -80,7 +80,7 @@ fn perform<R: Threads + Wait + Sync, G: Gate + Sync>(
     rt: &R,
     alloc: Global,
     line: &str,
-    script: &str,
+    script: &[u8],
     boxes: usize,
     failing: Failing,
     gate: &G,
@@ -94,7 +94,7 @@ fn perform<R: Threads + Wait + Sync, G: Gate + Sync>(
     }
     let moments = Vec::from_array(alloc, [5, 7])?;
     let mut clock = MemoryClock::open(moments, Vec::from_array(alloc, [clock])?);
-    let script = Vec::from_slice(alloc, script.as_bytes())?;
+    let script = Vec::from_slice(alloc, script)?;
     let mut source = MemorySource::open(script, Vec::from_array(alloc, [source])?);
     let mut out = MemorySink::open(alloc, Vec::from_array(alloc, [sink])?);
     let mut rec = MemorySink::open(alloc, Vec::from_array(alloc, [recording])?);
@@ -167,13 +167,13 @@ pub(crate) fn await_count(number: &AtomicU64, count: u64, late: &AtomicU64) {
     late.store(1, Ordering::SeqCst);
 }
 
-const TWO_LANES: &str = "0 add /a\n1 send 2f610000\n0 pump\n1 send 2f620000\n";
+const TWO_LANES: &[u8] = b"0 add /a\n1 send 2f610000\n0 pump\n1 send 2f620000\n";
 
-const TWO_ADDS: &str = "0 add /b\n0 add /a\n";
+const TWO_ADDS: &[u8] = b"0 add /b\n0 add /a\n";
 
 /// Words, a script, the lane that is held, the line before which it is, and since when what it waits for may begin; how
 /// many boxes have an id and how many are left, and the end of what is printed.
-const MEETINGS: [(&str, &str, (u32, u32, u64), (usize, usize), &[u8]); 3] = [
+const MEETINGS: [(&str, &[u8], (u32, u32, u64), (usize, usize), &[u8]); 3] = [
     ("lanes f", TWO_LANES, (0, 1, 1), (1, 7), b"\n"),
     ("lanes f", TWO_LANES, (1, 2, 1), (1, 7), b"\n"),
     (
@@ -204,9 +204,9 @@ fn lanes_and_a_watcher_are_at_work_at_once(rt: HostRuntime) -> Result<(), Fail> 
     Ok(())
 }
 
-const USUAL: &str = "serve --count 2 --idle 3 f";
+const USUAL: &[u8] = b"serve --count 2 --idle 3 f";
 
-const TWO_LINKS: &str = "serve --links 2 --count 2 --idle 3 f";
+const TWO_LINKS: &[u8] = b"serve --links 2 --count 2 --idle 3 f";
 
 /// What the link answers where it wasn't served: the fader's packet.
 const UNSERVED: &[Datagram] = &[Datagram::Got(20)];
@@ -215,7 +215,7 @@ const UNSERVED: &[Datagram] = &[Datagram::Got(20)];
 const SERVED: &[Datagram] = &[Datagram::End];
 
 /// Words, a script, how many boxes there are and what fails.
-type Given = (&'static str, &'static str, usize, Failing);
+type Given = (&'static [u8], &'static [u8], usize, Failing);
 
 /// The status, the last line, how many boxes have an id and how many are left, and what the links and the clock answer
 /// then.
@@ -224,7 +224,7 @@ type Left = (u8, &'static str, (usize, usize), &'static [Datagram], u64);
 /// What is given, and what is left. In the first twelve nothing is served.
 const ENDS: [(Given, Left); 24] = [
     (
-        ("serve --links 9 f", ADD, 8, NONE),
+        (b"serve --links 9 f", ADD, 8, NONE),
         (2, "usage", (0, 8), UNSERVED, 5),
     ),
     // The source is called once more after its last bytes, to find its end.
@@ -237,7 +237,7 @@ const ENDS: [(Given, Left); 24] = [
         (4, "", (0, 8), UNSERVED, 5),
     ),
     (
-        (USUAL, "pump\n", 8, NONE),
+        (USUAL, b"pump\n", 8, NONE),
         (1, "script 1 8", (0, 8), UNSERVED, 5),
     ),
     (
@@ -245,30 +245,30 @@ const ENDS: [(Given, Left); 24] = [
         (8, "bank-short 1 0", (0, 0), UNSERVED, 5),
     ),
     (
-        ("lanes f", "0 add /1/fader1\n", 8, NONE),
+        (b"lanes f", b"0 add /1/fader1\n", 8, NONE),
         (0, "add 1 /1/fader1 id 0", (1, 7), UNSERVED, 5),
     ),
     (
-        ("serve --recording 60 f", ADD, 8, NONE),
+        (b"serve --recording 60 f", ADD, 8, NONE),
         (6, "recording-full 52 0", (0, 8), UNSERVED, 5),
     ),
     (
-        ("serve --recording 150 f", ADD, 8, NONE),
+        (b"serve --recording 150 f", ADD, 8, NONE),
         (6, "recording-full 28 10", (1, 7), UNSERVED, 5),
     ),
     (
-        ("lanes f", TWO_LANES, 0, NONE),
+        (b"lanes f", TWO_LANES, 0, NONE),
         (8, "bank-short 1 0", (0, 0), UNSERVED, 5),
     ),
     (
-        ("lanes f", TWO_LANES, 8, [1, 0, 0, 0, 0, 0]),
+        (b"lanes f", TWO_LANES, 8, [1, 0, 0, 0, 0, 0]),
         (4, "", (0, 8), UNSERVED, 5),
     ),
     // Of lanes each sink is written once, at the end, and that of the recording first.
     (
         (
-            "lanes f",
-            "0 tick 0000000000000005\n",
+            b"lanes f",
+            b"0 tick 0000000000000005\n",
             8,
             [0, 0, 1, 0, 0, 0],
         ),
@@ -276,8 +276,8 @@ const ENDS: [(Given, Left); 24] = [
     ),
     (
         (
-            "lanes f",
-            "0 tick 0000000000000005\n",
+            b"lanes f",
+            b"0 tick 0000000000000005\n",
             8,
             [0, 1, 0, 0, 0, 0],
         ),
@@ -295,7 +295,7 @@ const ENDS: [(Given, Left); 24] = [
         ),
     ),
     (
-        ("serve --links 2 --idle 4 f", ADD, 8, NONE),
+        (b"serve --links 2 --idle 4 f", ADD, 8, NONE),
         (
             0,
             "fault link 0 datagram 2 2 30",
@@ -306,12 +306,12 @@ const ENDS: [(Given, Left); 24] = [
     ),
     // Nothing fits after the enrolments.
     (
-        ("serve --recording 168 f", ADD, 8, NONE),
+        (b"serve --recording 168 f", ADD, 8, NONE),
         (6, "recording-full 72 0", (1, 7), &[Datagram::Got(30)], 7),
     ),
     (
         (
-            "serve --links 2 --recording 196 f",
+            b"serve --links 2 --recording 196 f",
             ADD,
             8,
             [0, 0, 0, 0, 1, 0],
@@ -361,7 +361,7 @@ const ENDS: [(Given, Left); 24] = [
         (5, "", (1, 7), UNSERVED, 7),
     ),
     (
-        ("serve --recording 168 f", ADD, 8, [0, 1, 0, 0, 0, 0]),
+        (b"serve --recording 168 f", ADD, 8, [0, 1, 0, 0, 0, 0]),
         (5, "", (1, 7), &[Datagram::Got(30)], 7),
     ),
 ];
@@ -370,6 +370,7 @@ const ENDS: [(Given, Left); 24] = [
 fn each_end_has_its_last_line(rt: HostRuntime) -> Result<(), Fail> {
     let alloc = rt.alloc();
     for ((line, script, boxes, failing), (status, last, shares, next, moment)) in ENDS {
+        let line = str::from_utf8(line).unwrap_or("");
         let outcome = perform(&rt, alloc, line, script, boxes, failing, &OpenGate)?;
         assert_eq!(rt; outcome.status, status, "{line}");
         let text = String::from_utf8_lossy(alloc, &outcome.written)?;

@@ -37,7 +37,7 @@ fn serve<W: Threads + Wait + Sync, L: Link + Send + Drop>(
 ) -> Result<(u8, Vec<u8>, Vec<L>), Fail> {
     let alloc = rt.alloc();
     let words = words(alloc, line)?;
-    let mut source = SteadySource::open(Vec::from_slice(alloc, ADD.as_bytes())?);
+    let mut source = SteadySource::open(Vec::from_slice(alloc, ADD)?);
     let mut out = SteadySink::open(alloc);
     let mut rec = SteadySink::open(alloc);
     let mut clock = SystemClock::open(rt);
